@@ -1,0 +1,5 @@
+pub mod Below
+pub mod Register
+pub mod Rows
+pub mod Neighbours
+pub mod Residue

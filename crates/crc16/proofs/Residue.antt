@@ -1,0 +1,40 @@
+-- A row with its checksum behind it, high byte first, has the checksum 0, and no other two bytes behind it do that.
+-- Assumes nothing.
+use mathlib.Core.Path.{_≡_, refl, sym, ap, ap₂, _∙_}
+use mathlib.Core.List.{List, [], _∷_, _++_}
+use Prim.Native.Nat.{ℕ, zero, suc, _+_, _*_, _/_, _%_, _^_, _<_}
+use native.Mathlib.Nat.{add-zero, div-add-mod'}
+use native.Mathlib.Omega.{arith}
+use lib.Bits.{bitXor, xor-block, xor-self, xor-zero-r}
+use Rattle.crc16.specs.Altered.{Bytes}
+use Rattle.crc16.specs.Crc.{shifts, crc-step, crc-from, crc-of}
+use Rattle.crc16.proofs.Register.{low-up}
+use Rattle.crc16.proofs.Neighbours.{from-below, same-pair}
+
+pub crc-append : (c : ℕ) (xs ys : List ℕ) → crc-from c (xs ++ ys) ≡ crc-from (crc-from c xs) ys
+unfolding crc-from
+crc-append c [] ys = refl
+crc-append c (x ∷ xs) ys = crc-append (crc-step c x) xs ys
+
+-- the register's own halves bring it to 0
+own-halves : (c : ℕ) → c < 2 ^ 16 → crc-step (crc-step c (c / 256)) (c % 256) ≡ 0
+own-halves c h =
+    let hl : c % 256 < 256 = omega arith in
+    let low : bitXor c (c / 256 * 256) ≡ c % 256 =
+    ap₂ bitXor (sym (div-add-mod' c 256)) (sym (add-zero (c / 256 * 256)))
+    ∙ xor-block 8 (c / 256) (c / 256) (c % 256) 0 hl (omega arith)
+    ∙ ap₂ (λ x y. x * 256 + y) (xor-self (c / 256)) (xor-zero-r (c % 256)) ∙ omega arith in
+    ap (λ x. shifts 8 (bitXor x (c % 256 * 256))) (ap (shifts 8) low ∙ low-up (c % 256) hl)
+    ∙ ap (shifts 8) (xor-self (c % 256 * 256)) ∙ low-up 0 (omega arith)
+
+pub residue : (xs : List ℕ) → Bytes xs → crc-of (xs ++ crc-of xs / 256 ∷ crc-of xs % 256 ∷ []) ≡ 0
+unfolding crc-from
+residue xs bx = crc-append 0 xs _ ∙ own-halves (crc-of xs) (from-below 0 xs (omega arith) bx)
+
+pub no-other : (xs : List ℕ) (h l : ℕ) → Bytes xs → h < 256 → l < 256 → crc-of (xs ++ h ∷ l ∷ []) ≡ 0 → h * 256 + l ≡ crc-of xs
+unfolding crc-from
+no-other xs h l bx hh hl e =
+    let below = from-below 0 xs (omega arith) bx in
+    let pair = same-pair (crc-of xs) h l (crc-of xs / 256) (crc-of xs % 256) below hh hl (omega arith) (omega arith)
+    (sym (crc-append 0 xs _) ∙ e ∙ sym (own-halves (crc-of xs) below)) in
+    ap₂ (λ x y. x * 256 + y) (pair .0) (pair .1) ∙ div-add-mod' (crc-of xs) 256
