@@ -1,0 +1,5 @@
+pub mod Codes
+pub mod Fields
+pub mod Frames
+pub mod Packing
+pub mod Reading

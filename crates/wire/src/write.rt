@@ -1,0 +1,99 @@
+ghost use mathlib.Core.List.{[], _∷_};
+ghost use mathlib.Core.Path.{_≡_};
+ghost use Prim.Native.Nat.{_+_, _≤_};
+ghost use lib.ListN.{length, take};
+ghost use Rattle.crc16.specs.Crc.{crc-of};
+ghost use Rattle.wire.specs.Codes.{ack-code};
+ghost use Rattle.wire.specs.Fields.{fields-of};
+ghost use Rattle.wire.specs.Frames.{big-endian, command-frame, frame, header, reply-frame};
+ghost use Rattle.wire.specs.Packing.{after, laid, told};
+use crate::ack::Ack;
+use crate::layout::COMMAND_START;
+use crate::layout::HEADER;
+use crate::layout::REPLY_START;
+use crate::layout::len_of;
+use crate::message::Message;
+use crate::refusal::Refusal;
+use crc16::checksum;
+
+// Lays `part` into `out` from place `at` on.
+fn put(out: &mut [u8], at: usize, part: &[u8])
+    requires { ⌜ at + length (now part) ≤ length (now out) ⌝ }
+    ensures { λ _. ⌜ now (out .exit) ≡ laid (now (out .entry)) at (now (part .entry)) ⌝ }
+{
+    out[at..at + part.len()].copy_from_slice(part);
+}
+
+// The length of a frame with `count` parameter bytes and `others` besides, if it goes into `space` bytes.
+fn frame_len(count: usize, others: usize, space: usize) -> Result<usize, Refusal>
+    requires { ⌜ others ≤ 8 ⌝ }
+    ensures { λ r. ⌜ r ≡ told count others space ⌝ }
+{
+    if count == 0 || count > 256 {
+        return Err(Refusal::ParamCount);
+    }
+    if space < count + others {
+        return Err(Refusal::ShortBuffer);
+    }
+    Ok(count + others)
+}
+
+// What stands before the parameter.
+fn header_of(start: u8, message: Message<'_>) -> [u8; HEADER]
+    requires { ⌜ length (now (message .param)) ≤ 256 ⌝ }
+    ensures { λ r. ⌜ r ≡ header start (fields-of (message .entry)) ⌝ }
+{
+    let [high, low] = message.address.to_be_bytes();
+    [
+        start,
+        message.command,
+        high,
+        low,
+        len_of(message.param.len()),
+    ]
+}
+
+// Puts the CRC of the first `end` bytes behind them.
+fn seal(out: &mut [u8], end: usize)
+    requires { ⌜ end + 2 ≤ length (now out) ⌝ }
+    ensures { λ _. ⌜ now (out .exit) ≡ laid (now (out .entry)) end (big-endian (crc-of (take end (now (out .entry))))) ⌝ }
+{
+    let crc = checksum(&out[0..end]);
+    put(out, end, &crc.to_be_bytes());
+}
+
+// Writes a frame that begins with `start` and has `extra` between its parameter and its CRC to the front of `out`.
+fn put_frame(
+    start: u8,
+    message: Message<'_>,
+    extra: &[u8],
+    out: &mut [u8],
+) -> Result<usize, Refusal>
+    requires { ⌜ length (now extra) ≤ 1 ⌝ }
+    ensures told { λ r. ⌜ r ≡ told (length (now (message .entry .param))) (length (now (extra .entry)) + 7) (length (now (out .entry))) ⌝ }
+    ensures buffer { λ r. ⌜ now (out .exit) ≡ after r (frame start (fields-of (message .entry)) (now (extra .entry))) (now (out .entry)) ⌝ }
+{
+    let count = message.param.len();
+    let len = frame_len(count, extra.len() + 7, out.len())?;
+    put(out, 0, &header_of(start, message));
+    put(out, HEADER, message.param);
+    put(out, HEADER + count, extra);
+    seal(out, HEADER + count + extra.len());
+    Ok(len)
+}
+
+// The PC's end: writes the frame of a command to the front of `out`, keeps the rest, and tells the frame's length.
+pub fn pack(message: Message<'_>, out: &mut [u8]) -> Result<usize, Refusal>
+    ensures told { λ r. ⌜ r ≡ told (length (now (message .entry .param))) 7 (length (now (out .entry))) ⌝ }
+    ensures buffer { λ r. ⌜ now (out .exit) ≡ after r (command-frame (fields-of (message .entry))) (now (out .entry)) ⌝ }
+{
+    put_frame(COMMAND_START, message, &[], out)
+}
+
+// The interface's end: writes the frame of a reply to the front of `out`, keeps the rest, and tells the frame's length.
+pub fn write_reply(message: Message<'_>, ack: Ack, out: &mut [u8]) -> Result<usize, Refusal>
+    ensures told { λ r. ⌜ r ≡ told (length (now (message .entry .param))) 8 (length (now (out .entry))) ⌝ }
+    ensures buffer { λ r. ⌜ now (out .exit) ≡ after r (reply-frame (record { fields = fields-of (message .entry); ack = ack-code ack })) (now (out .entry)) ⌝ }
+{
+    put_frame(REPLY_START, message, &[ack.code()], out)
+}
