@@ -1,4 +1,5 @@
 pub mod Below
+pub mod Bytes
 pub mod Register
 pub mod Rows
 pub mod Neighbours

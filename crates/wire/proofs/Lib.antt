@@ -1,2 +1,4 @@
 pub mod Shapes
 pub mod Laying
+pub mod Trips
+pub mod Laws

@@ -7,7 +7,7 @@ use native.Mathlib.Omega.{arith}
 use lib.Dec.{eqb, leb}
 use lib.ListN.{length, getD, take, drop}
 use Rattle.std.proofs.shelf.Lists.{take-rest}
-use Rattle.std.proofs.shelf.Tests.{and-from, cond-both, cond-true, eq-eqb, le-leb, eqb-false}
+use Rattle.std.proofs.shelf.Tests.{and-from, and-parts, cond-both, cond-true, eq-eqb, eqb-false, eqb-true, le-leb}
 use Rattle.std.specs.declared.option.Option.the-variants.{Some}
 use Rattle.wire.specs.Frames.{param-count}
 use Rattle.wire.specs.Reading.{count-in, number-at, shaped, shaped-fields, fields-in}
@@ -20,6 +20,12 @@ pub shape-met : (start others : ℕ) (bs : List ℕ) → getD bs 0 0 ≡ start �
 shape-met start others bs first long =
     let some = count-some (getD bs 4 0) in
     and-from _ _ (le-leb (others + 1) (length bs) (omega arith)) (and-from _ _ (eq-eqb _ _ first) (eq-eqb _ _ long))
+
+pub shape-parts : (start others : ℕ) (bs : List ℕ) → shaped start others bs ≡ true
+    → (getD bs 0 0 ≡ start) × (length bs ≡ count-in bs + others)
+shape-parts start others bs shape =
+    let rest = and-parts (eqb (getD bs 0 0) start) (eqb (length bs) (count-in bs + others)) (and-parts (leb (others + 1) (length bs)) _ shape .1) in
+    (eqb-true _ _ (rest .0), eqb-true _ _ (rest .1))
 
 pub fields-met : (start others count address : ℕ) (bs param : List ℕ) → getD bs 0 0 ≡ start → count ≡ count-in bs
     → length bs ≡ count + others → address ≡ number-at bs 2 → param ≡ take count (take (length bs - 5) (drop 5 bs))

@@ -3,3 +3,4 @@ pub mod Fields
 pub mod Frames
 pub mod Packing
 pub mod Reading
+pub mod Laws

@@ -55,12 +55,17 @@ pub data Heard : Type 0 where
   intact : Fields → Heard
   damaged : (command address : ℕ) → Heard
 
--- What the interface makes of the bytes of a command; None where they have not the shape of one.
-abbrev pub heard : List ℕ → Option Heard
-heard bs =
-    cond (shaped 0x2F 7 bs)
+-- What is made of the bytes of a frame that begins with `start` and has `others` bytes besides its parameter; None where
+-- they have not its shape.
+abbrev pub heard-in : (start others : ℕ) → List ℕ → Option Heard
+heard-in start others bs =
+    cond (shaped start others bs)
     (Some (cond (crc-right bs) (intact (fields-in bs)) (damaged (getD bs 1 0) (number-at bs 2))))
     None
+
+-- What the interface makes of the bytes of a command.
+abbrev pub heard : List ℕ → Option Heard
+heard bs = heard-in 0x2F 7 bs
 
 -- The result of the code's `unpack`, as plain values.
 abbrev pub reply-told : Result Reply Refusal → Result Answer Refusal

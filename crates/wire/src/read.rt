@@ -3,6 +3,7 @@ ghost use Prim.Native.Nat.{_≤_};
 ghost use lib.ListN.{length};
 ghost use Rattle.std.specs.Options.{mapped};
 ghost use Rattle.wire.specs.Fields.{fields-of};
+ghost use Rattle.wire.specs.Laws.{Commands, Replies};
 ghost use Rattle.wire.specs.Reading.{command-told, crc-right, heard, reply-told, shaped-fields, unpacked};
 use crate::layout::COMMAND_OTHERS;
 use crate::layout::COMMAND_START;
@@ -20,7 +21,9 @@ use crc16::checksum;
 // have not its shape. The CRC is not looked at.
 fn take_apart(bytes: &[u8], start: u8, others: usize) -> Option<Message<'_>>
     requires { ⌜ others ≤ 8 ⌝ ∗ ⌜ 7 ≤ others ⌝ }
-    ensures { λ r. ⌜ mapped fields-of r ≡ shaped-fields start others (now (bytes .entry)) ⌝ }
+    ensures value { λ r. ⌜ mapped fields-of r ≡ shaped-fields start others (now (bytes .entry)) ⌝ }
+    ensures commands { λ _. ⌜ Commands (now (bytes .entry)) ⌝ }
+    ensures replies { λ _. ⌜ Replies (now (bytes .entry)) ⌝ }
 {
     let [first, command, high, low, len, rest @ ..] = bytes else {
         return None;
@@ -48,7 +51,8 @@ fn crc_right(bytes: &[u8]) -> bool
 
 // The interface's end: what the bytes of a whole command frame say; None where they are no such frame.
 pub fn read_command(bytes: &[u8]) -> Option<Received<'_>>
-    ensures { λ r. ⌜ command-told r ≡ heard (now (bytes .entry)) ⌝ }
+    ensures told { λ r. ⌜ command-told r ≡ heard (now (bytes .entry)) ⌝ }
+    ensures laws { λ _. ⌜ Commands (now (bytes .entry)) ⌝ }
 {
     let message = take_apart(bytes, COMMAND_START, COMMAND_OTHERS)?;
     if crc_right(bytes) {
@@ -63,7 +67,8 @@ pub fn read_command(bytes: &[u8]) -> Option<Received<'_>>
 
 // The PC's end: takes the bytes of a reply apart. The parameter is a part of them.
 pub fn unpack(bytes: &[u8]) -> Result<Reply<'_>, Refusal>
-    ensures { λ r. ⌜ reply-told r ≡ unpacked (now (bytes .entry)) ⌝ }
+    ensures told { λ r. ⌜ reply-told r ≡ unpacked (now (bytes .entry)) ⌝ }
+    ensures laws { λ _. ⌜ Replies (now (bytes .entry)) ⌝ }
 {
     let message = take_apart(bytes, REPLY_START, REPLY_OTHERS).ok_or(Refusal::NotAReply)?;
     if !crc_right(bytes) {

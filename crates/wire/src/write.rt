@@ -1,12 +1,14 @@
-ghost use mathlib.Core.List.{[], _∷_};
 ghost use mathlib.Core.Path.{_≡_};
-ghost use Prim.Native.Nat.{_+_, _≤_};
-ghost use lib.ListN.{length, take};
+ghost use Prim.Native.Nat.{ℕ, _+_, _≤_};
+ghost use lib.ListN.{getD, length, take};
 ghost use Rattle.crc16.specs.Crc.{crc-of};
+ghost use Rattle.std.specs.declared.option.Option.the-variants.{Some};
+ghost use Rattle.std.specs.declared.result.Result.the-variants.{Ok};
 ghost use Rattle.wire.specs.Codes.{ack-code};
 ghost use Rattle.wire.specs.Fields.{fields-of};
 ghost use Rattle.wire.specs.Frames.{big-endian, command-frame, frame, header, reply-frame};
 ghost use Rattle.wire.specs.Packing.{after, laid, told};
+ghost use Rattle.wire.specs.Reading.{heard, heard-in, intact, unpacked};
 use crate::ack::Ack;
 use crate::layout::COMMAND_START;
 use crate::layout::HEADER;
@@ -72,6 +74,8 @@ fn put_frame(
     requires { ⌜ length (now extra) ≤ 1 ⌝ }
     ensures told { λ r. ⌜ r ≡ told (length (now (message .entry .param))) (length (now (extra .entry)) + 7) (length (now (out .entry))) ⌝ }
     ensures buffer { λ r. ⌜ now (out .exit) ≡ after r (frame start (fields-of (message .entry)) (now (extra .entry))) (now (out .entry)) ⌝ }
+    ensures heard { λ r. ⌜ ((n : ℕ) → r ≡ Ok n → heard-in start (length (now (extra .entry)) + 7) (take n (now (out .exit))) ≡ Some (intact (fields-of (message .entry)))) ⌝ }
+    ensures unpacked { λ r. ⌜ ((n : ℕ) → r ≡ Ok n → start ≡ 0x2E → length (now (extra .entry)) ≡ 1 → unpacked (take n (now (out .exit))) ≡ Ok (record { fields = fields-of (message .entry); ack = getD (now (extra .entry)) 0 0 })) ⌝ }
 {
     let count = message.param.len();
     let len = frame_len(count, extra.len() + 7, out.len())?;
@@ -86,6 +90,7 @@ fn put_frame(
 pub fn pack(message: Message<'_>, out: &mut [u8]) -> Result<usize, Refusal>
     ensures told { λ r. ⌜ r ≡ told (length (now (message .entry .param))) 7 (length (now (out .entry))) ⌝ }
     ensures buffer { λ r. ⌜ now (out .exit) ≡ after r (command-frame (fields-of (message .entry))) (now (out .entry)) ⌝ }
+    ensures heard { λ r. ⌜ ((n : ℕ) → r ≡ Ok n → heard (take n (now (out .exit))) ≡ Some (intact (fields-of (message .entry)))) ⌝ }
 {
     put_frame(COMMAND_START, message, &[], out)
 }
@@ -94,6 +99,7 @@ pub fn pack(message: Message<'_>, out: &mut [u8]) -> Result<usize, Refusal>
 pub fn write_reply(message: Message<'_>, ack: Ack, out: &mut [u8]) -> Result<usize, Refusal>
     ensures told { λ r. ⌜ r ≡ told (length (now (message .entry .param))) 8 (length (now (out .entry))) ⌝ }
     ensures buffer { λ r. ⌜ now (out .exit) ≡ after r (reply-frame (record { fields = fields-of (message .entry); ack = ack-code ack })) (now (out .entry)) ⌝ }
+    ensures unpacked { λ r. ⌜ ((n : ℕ) → r ≡ Ok n → unpacked (take n (now (out .exit))) ≡ Ok (record { fields = fields-of (message .entry); ack = ack-code ack })) ⌝ }
 {
     put_frame(REPLY_START, message, &[ack.code()], out)
 }

@@ -1,12 +1,26 @@
-use mathlib.Core.Path.{sym, _∙_}
+use mathlib.Core.List.{_++_}
+use mathlib.Core.Path.{_≡_, sym, _∙_}
+use lib.ListN.{length, drop}
+use Rattle.std.specs.declared.result.Result.the-variants.{Ok}
 use Rattle.wire.specs.Fields.{fields-of}
+use Rattle.wire.specs.Frames.{frame}
+use Rattle.wire.specs.Packing.{told}
+use Rattle.wire.proofs.Laws.{written-heard, written-unpacked}
 use Rattle.wire.proofs.Laying.{frame-laid}
 use Rattle.wire.proofs.write.put_frame.Needs as need
 
 pub returns : need.returns
-returns c = record {
-  told = sym (c .in-Continue-len .was tt) ∙ c .frame-len .ensures;
-  buffer =
-      frame-laid (c .args .start) (fields-of (c .args .message)) (c .args .extra .now) _ (c .args .out .now) _ _ _ _
-      (c .header-of .ensures) (c .put .ensures) (c .put-2 .ensures) (c .put-3 .ensures) (c .seal .ensures);
-}
+returns c =
+    let start = c .args .start in
+    let f = fields-of (c .args .message) in
+    let extra = c .args .extra .now in
+    let out = c .args .out .now in
+    let done = sym (c .in-Continue-len .was tt) ∙ c .frame-len .ensures in
+    let buffer : c .seal .last .out ≡ frame start f extra ++ drop (length (frame start f extra)) out =
+    frame-laid start f extra _ out _ _ _ _ (c .header-of .ensures) (c .put .ensures) (c .put-2 .ensures) (c .put-3 .ensures) (c .seal .ensures) in
+    record {
+      told = done;
+      buffer = buffer;
+      heard = λ n e. written-heard start f extra _ _ (length out) n (sym done ∙ e) buffer;
+      unpacked = λ n e. written-unpacked start f extra _ _ (length out) n (sym done ∙ e) buffer;
+    }
