@@ -3,7 +3,7 @@ ghost use Rattle.std.specs.Options.{Cases};
 ghost use Rattle.wire.specs.Codes.{ack-code};
 
 // What the interface says of a command, the ACK of its reply.
-#[derive(Clone, Copy, Debug, PartialEq, Eq)]
+#[derive(Clone, Copy)]
 pub enum Ack {
     Ok,
     InvalidCommand,

@@ -1,7 +1,7 @@
 // What a frame carries besides its START, PARAM_LEN and CRC. The parameter is lent.
 
 // What a command and a reply have in common.
-#[derive(Clone, Copy, Debug)]
+#[derive(Clone, Copy)]
 pub struct Message<'a> {
     pub command: u8,
     pub address: u16,
@@ -9,14 +9,14 @@ pub struct Message<'a> {
 }
 
 // A reply as the PC gets it; its ACK may be any byte.
-#[derive(Clone, Copy, Debug)]
+#[derive(Clone, Copy)]
 pub struct Reply<'a> {
     pub message: Message<'a>,
     pub ack: u8,
 }
 
 // A whole command frame as the interface gets it.
-#[derive(Clone, Copy, Debug)]
+#[derive(Clone, Copy)]
 pub enum Received<'a> {
     // its CRC is right
     Intact(Message<'a>),

@@ -2,7 +2,7 @@ ghost use mathlib.Core.Path.{_≡_};
 ghost use Rattle.wire.specs.Codes.{refusal-number};
 
 // Why a call was refused. A refused call has altered nothing.
-#[derive(Clone, Copy, Debug, PartialEq, Eq)]
+#[derive(Clone, Copy)]
 pub enum Refusal {
     // a byte came while a reply waits to be collected
     ReplyWaiting,

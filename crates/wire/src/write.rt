@@ -57,7 +57,7 @@ fn header_of(start: u8, message: Message<'_>) -> [u8; HEADER]
 
 // Puts the CRC of the first `end` bytes behind them.
 fn seal(out: &mut [u8], end: usize)
-    requires { ⌜ end + 2 ≤ length (now out) ⌝ }
+    requires { ⌜ 5 ≤ end ⌝ ∗ ⌜ end + 2 ≤ length (now out) ⌝ }
     ensures { λ _. ⌜ now (out .exit) ≡ laid (now (out .entry)) end (big-endian (crc-of (take end (now (out .entry))))) ⌝ }
 {
     let crc = checksum(&out[0..end]);
