@@ -42,7 +42,7 @@ body-bytes : (start : ℕ) (f : Fields) (extra : List ℕ) → start < 256 → F
 body-bytes start f extra first fit some =
     bytes-append (header start f) (f .param ++ extra) (header-bytes start f first fit) (bytes-append (f .param) extra (fit .bytes) some)
 
-frame-bytes : (start : ℕ) (f : Fields) (extra : List ℕ) → start < 256 → Fit f → Bytes extra → Bytes (frame start f extra)
+pub frame-bytes : (start : ℕ) (f : Fields) (extra : List ℕ) → start < 256 → Fit f → Bytes extra → Bytes (frame start f extra)
 frame-bytes start f extra first fit some =
     let body = header start f ++ (f .param ++ extra) in
     let sum = from-below 0 body (omega arith) (body-bytes start f extra first fit some) in
@@ -153,7 +153,7 @@ replies bs bytes = record {
 -- ---- what was written is read
 
 -- the front of a buffer that a frame was written to is the frame
-written : (start : ℕ) (f : Fields) (extra out rest : List ℕ) (space n : ℕ) → told (length (f .param)) (length extra + 7) space ≡ Ok n
+pub written : (start : ℕ) (f : Fields) (extra out rest : List ℕ) (space n : ℕ) → told (length (f .param)) (length extra + 7) space ≡ Ok n
     → out ≡ frame start f extra ++ rest → (take n out ≡ frame start f extra) × Counted (f .param)
 written start f extra out rest space n e same =
     let k = length (f .param) in

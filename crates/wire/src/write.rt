@@ -74,6 +74,7 @@ fn put_frame(
     requires { ⌜ length (now extra) ≤ 1 ⌝ }
     ensures told { λ r. ⌜ r ≡ told (length (now (message .entry .param))) (length (now (extra .entry)) + 7) (length (now (out .entry))) ⌝ }
     ensures buffer { λ r. ⌜ now (out .exit) ≡ after r (frame start (fields-of (message .entry)) (now (extra .entry))) (now (out .entry)) ⌝ }
+    ensures front { λ r. ⌜ ((n : ℕ) → r ≡ Ok n → take n (now (out .exit)) ≡ frame start (fields-of (message .entry)) (now (extra .entry))) ⌝ }
     ensures heard { λ r. ⌜ ((n : ℕ) → r ≡ Ok n → heard-in start (length (now (extra .entry)) + 7) (take n (now (out .exit))) ≡ Some (intact (fields-of (message .entry)))) ⌝ }
     ensures unpacked { λ r. ⌜ ((n : ℕ) → r ≡ Ok n → start ≡ 0x2E → length (now (extra .entry)) ≡ 1 → unpacked (take n (now (out .exit))) ≡ Ok (record { fields = fields-of (message .entry); ack = getD (now (extra .entry)) 0 0 })) ⌝ }
 {
@@ -90,6 +91,7 @@ fn put_frame(
 pub fn pack(message: Message<'_>, out: &mut [u8]) -> Result<usize, Refusal>
     ensures told { λ r. ⌜ r ≡ told (length (now (message .entry .param))) 7 (length (now (out .entry))) ⌝ }
     ensures buffer { λ r. ⌜ now (out .exit) ≡ after r (command-frame (fields-of (message .entry))) (now (out .entry)) ⌝ }
+    ensures front { λ r. ⌜ ((n : ℕ) → r ≡ Ok n → take n (now (out .exit)) ≡ command-frame (fields-of (message .entry))) ⌝ }
     ensures heard { λ r. ⌜ ((n : ℕ) → r ≡ Ok n → heard (take n (now (out .exit))) ≡ Some (intact (fields-of (message .entry)))) ⌝ }
 {
     put_frame(COMMAND_START, message, &[], out)

@@ -5,7 +5,7 @@ use Rattle.std.specs.declared.result.Result.the-variants.{Ok}
 use Rattle.wire.specs.Fields.{fields-of}
 use Rattle.wire.specs.Frames.{frame}
 use Rattle.wire.specs.Packing.{told}
-use Rattle.wire.proofs.Laws.{written-heard, written-unpacked}
+use Rattle.wire.proofs.Laws.{written, written-heard, written-unpacked}
 use Rattle.wire.proofs.Laying.{frame-laid}
 use Rattle.wire.proofs.write.put_frame.Needs as need
 
@@ -21,6 +21,7 @@ returns c =
     record {
       told = done;
       buffer = buffer;
+      front = λ n e. written start f extra _ _ (length out) n (sym done ∙ e) buffer .0;
       heard = λ n e. written-heard start f extra _ _ (length out) n (sym done ∙ e) buffer;
       unpacked = λ n e. written-unpacked start f extra _ _ (length out) n (sym done ∙ e) buffer;
     }

@@ -1,0 +1,4 @@
+pub mod Digits
+pub mod Texts
+pub mod Spelling
+pub mod Answering

@@ -1,0 +1,4 @@
+pub mod Hex
+pub mod Requests
+pub mod Lines
+pub mod Laws
