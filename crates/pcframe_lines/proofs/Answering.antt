@@ -19,11 +19,11 @@ use Rattle.wire.specs.Frames.{command-frame, reply-frame}
 use Rattle.wire.specs.Laws.{FitAnswer}
 use Rattle.wire.specs.Packing.{told}
 use Rattle.wire.proofs.Laws.{frame-bytes, frame-unpacked}
-use Rattle.pcframe_lines.specs.Hex.{byte-value, bytes-spelled, hex-address, hex-byte, hex-bytes, hex-digit}
+use Rattle.hex.specs.Hex.{byte-value, bytes-spelled, hex-address, hex-byte, hex-bytes, hex-digit}
 use Rattle.pcframe_lines.specs.Laws.{Answers, command-line, reply-line}
 use Rattle.pcframe_lines.specs.Lines.{answer-to, answered, frame-or-refusal, hex-line, report, report-or-refusal}
 use Rattle.pcframe_lines.specs.Requests.{Asked, asked, asked-by, head-from, head-spelled, packing, packing-of, trimmed, unpacking, unpacking-of}
-use Rattle.pcframe_lines.proofs.Spelling.{NoReturn, byte-back, bytes-back, none-before, none-in-byte, none-in-bytes}
+use Rattle.hex.proofs.Spelling.{NoReturn, byte-back, bytes-back, none-before, none-in-byte, none-in-bytes}
 
 untrimmed : (line : List ℕ) → NoReturn line → trimmed line ≡ line
 untrimmed line none = cond-false (eqb (getD line (length line - 1) 0) 13) _ line (ne-eqb _ 13 (none (length line - 1)))

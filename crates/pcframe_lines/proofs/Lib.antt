@@ -1,4 +1,2 @@
-pub mod Digits
 pub mod Texts
-pub mod Spelling
 pub mod Answering

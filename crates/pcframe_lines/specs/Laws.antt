@@ -6,7 +6,7 @@ use lib.Chars.{codes}
 use Rattle.wire.specs.Fields.{Answer, Fields, Fit}
 use Rattle.wire.specs.Frames.{command-frame, reply-frame}
 use Rattle.wire.specs.Laws.{FitAnswer}
-use Rattle.pcframe_lines.specs.Hex.{hex-address, hex-byte, hex-bytes}
+use Rattle.hex.specs.Hex.{hex-address, hex-byte, hex-bytes}
 use Rattle.pcframe_lines.specs.Lines.{answered, hex-line, report}
 
 -- The line that asks for the frame of a command.

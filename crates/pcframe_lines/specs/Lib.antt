@@ -1,4 +1,3 @@
-pub mod Hex
 pub mod Requests
 pub mod Lines
 pub mod Laws

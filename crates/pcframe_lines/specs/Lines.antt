@@ -16,7 +16,7 @@ use Rattle.wire.specs.Fields.{Answer, Fields}
 use Rattle.wire.specs.Frames.{command-frame}
 use Rattle.wire.specs.Packing.{told}
 use Rattle.wire.specs.Reading.{unpacked}
-use Rattle.pcframe_lines.specs.Hex.{hex-address, hex-byte, hex-bytes}
+use Rattle.hex.specs.Hex.{hex-address, hex-byte, hex-bytes}
 use Rattle.pcframe_lines.specs.Requests.{Asked, asked, neither, packing, unpacking}
 
 -- A refusal as it is answered.

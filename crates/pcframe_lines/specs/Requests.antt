@@ -10,7 +10,7 @@ use Rattle.std.specs.declared.option.Option.the-variants.{Some, None}
 use Rattle.wire.specs.Fields.{Fields}
 use Rattle.pcframe_lines.specs.declared.request.Request.{Request}
 use Rattle.pcframe_lines.specs.declared.request.Request.the-variants.{Pack, Unpack, Unknown}
-use Rattle.pcframe_lines.specs.Hex.{byte-value, bytes-spelled}
+use Rattle.hex.specs.Hex.{byte-value, bytes-spelled}
 
 -- What can be asked for.
 pub data Asked : Type 0 where

@@ -1,8 +1,8 @@
 ghost use mathlib.Core.Path.{_≡_};
 ghost use Rattle.std.specs.declared.option.Option.the-variants.{Some};
 ghost use Rattle.pcframe_lines.specs.Lines.{ack-name, ack-text};
-use crate::hex::Hex;
-use crate::hex::HexDisplay;
+use hex::Hex;
+use hex::HexDisplay;
 use std::fmt;
 use wire::Ack;
 

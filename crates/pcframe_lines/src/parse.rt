@@ -1,12 +1,12 @@
 ghost use mathlib.Core.Path.{_≡_};
 ghost use lib.ListN.{drop};
 ghost use Rattle.std.specs.Vec.{made};
-ghost use Rattle.pcframe_lines.specs.Hex.{bytes-spelled};
+ghost use Rattle.hex.specs.Hex.{bytes-spelled};
 ghost use Rattle.pcframe_lines.specs.Laws.{Answers};
 ghost use Rattle.pcframe_lines.specs.Requests.{asked, asked-by, head-spelled, packing-of, request-as, trimmed, unpacking-of};
-use crate::hex::byte_of;
-use crate::hex::bytes_of;
 use crate::request::Request;
+use hex::byte_of;
+use hex::bytes_of;
 use std::alloc::AllocError;
 use std::alloc::Global;
 

@@ -1,7 +1,7 @@
 use mathlib.Core.List.{_++_}
 use mathlib.Core.Path.{sym, ap}
 use Rattle.std.proofs.Writes.{put-is}
-use Rattle.pcframe_lines.specs.Hex.{hex-byte}
+use Rattle.hex.specs.Hex.{hex-byte}
 use Rattle.pcframe_lines.proofs.Texts.{unnamed}
 use Rattle.pcframe_lines.proofs.acks.AckByteDisplay.fmt.Needs as need
 

@@ -12,7 +12,7 @@ use Rattle.std.proofs.shelf.Tests.{cond-both, cond-true, eq-eqb}
 use Rattle.std.specs.Options.{mapped}
 use Rattle.std.specs.declared.option.Option.{Option}
 use Rattle.std.specs.declared.option.Option.the-variants.{Some, None}
-use Rattle.pcframe_lines.specs.Hex.{byte-before, byte-value, bytes-spelled, hex-byte, hex-bytes, hex-digit}
+use Rattle.hex.specs.Hex.{byte-before, byte-value, bytes-spelled, hex-byte, hex-bytes, hex-digit}
 
 digit-ascii : (n : ℕ) → n < 16 → hex-digit n < 128
 digit-ascii n h = cond-both (ltb n 10) (48 + n) (55 + n) (λ c. c < 128) (λ e. omega arith) (λ e. omega arith)

@@ -3,8 +3,8 @@ use mathlib.Core.Path.{_≡_}
 use lib.ListN.{length}
 use Rattle.std.specs.Of.Vec.{vec-items}
 use Rattle.std.specs.Options.{mapped}
-use Rattle.pcframe_lines.specs.Hex.{bytes-spelled}
-use Rattle.pcframe_lines.proofs.hex.bytes_of.Given as given
+use Rattle.hex.specs.Hex.{bytes-spelled}
+use Rattle.hex.proofs.read.bytes_of.Given as given
 
 -- the bytes so far, before those that the rest spells
 abbrev pub Inv-loop-rest : given.InvT-loop-rest

@@ -1,8 +1,8 @@
 use mathlib.Core.Path.{subst}
 use native.Mathlib.Omega.{arith}
 use Rattle.std.specs.Written.{Put}
-use Rattle.pcframe_lines.proofs.Digits.{written-byte}
-use Rattle.pcframe_lines.proofs.hex.HexDisplay.fmt.Needs as need
+use Rattle.hex.proofs.Digits.{written-byte}
+use Rattle.hex.proofs.write.HexDisplay.fmt.Needs as need
 
 pub returns : need.returns
 returns g c plain ok =

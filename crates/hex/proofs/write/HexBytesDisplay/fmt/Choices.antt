@@ -1,7 +1,7 @@
 use lib.ListN.{take}
 use Rattle.std.specs.Written.{Plain, Put}
-use Rattle.pcframe_lines.specs.Hex.{hex-bytes}
-use Rattle.pcframe_lines.proofs.hex.HexBytesDisplay.fmt.Given as given
+use Rattle.hex.specs.Hex.{hex-bytes}
+use Rattle.hex.proofs.write.HexBytesDisplay.fmt.Given as given
 
 -- the bytes so far are written
 abbrev pub Inv-loop-byte : given.InvT-loop-byte

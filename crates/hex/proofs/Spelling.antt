@@ -9,8 +9,7 @@ use lib.ListN.{getD}
 use Rattle.std.proofs.shelf.Tests.{and-from, and-right, cond-both, cond-false, cond-true, le-leb, lt-leb, ltb-true, ltb-false}
 use Rattle.std.specs.declared.option.Option.{Option}
 use Rattle.std.specs.declared.option.Option.the-variants.{Some, None}
-use Rattle.crc16.specs.Altered.{Bytes}
-use Rattle.pcframe_lines.specs.Hex.{byte-before, byte-value, bytes-spelled, digit-value, hex-byte, hex-bytes, hex-digit, two-digits}
+use Rattle.hex.specs.Hex.{byte-before, byte-value, bytes-spelled, digit-value, hex-byte, hex-bytes, hex-digit, two-digits}
 
 -- ---- one digit
 
@@ -37,7 +36,7 @@ byte-back b h =
 
 -- ---- any bytes
 
-pub bytes-back : (bs : List ℕ) → Bytes bs → bytes-spelled (hex-bytes bs) ≡ Some bs
+pub bytes-back : (bs : List ℕ) → ((k : ℕ) → getD bs k 0 < 256) → bytes-spelled (hex-bytes bs) ≡ Some bs
 bytes-back [] h = refl
 bytes-back (b ∷ bs) h = ap₂ byte-before (byte-back b (h 0)) (bytes-back bs (λ k. h (suc k)))
 
