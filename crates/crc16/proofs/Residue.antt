@@ -1,5 +1,4 @@
--- A row with its checksum behind it, high byte first, has the checksum 0, and no other two bytes behind it do that.
--- Assumes nothing.
+-- Bytes with their checksum behind them, high byte first, have the checksum 0. Assumes nothing.
 use mathlib.Core.Path.{_≡_, refl, sym, ap, ap₂, _∙_}
 use mathlib.Core.List.{List, [], _∷_, _++_}
 use Prim.Native.Nat.{ℕ, zero, suc, _+_, _*_, _/_, _%_, _^_, _<_}
@@ -9,7 +8,7 @@ use lib.Bits.{bitXor, xor-block, xor-self, xor-zero-r}
 use Rattle.crc16.specs.Altered.{Bytes}
 use Rattle.crc16.specs.Crc.{shifts, crc-step, crc-from, crc-of}
 use Rattle.crc16.proofs.Register.{low-up}
-use Rattle.crc16.proofs.Neighbours.{from-below, same-pair}
+use Rattle.crc16.proofs.Neighbours.{from-below}
 
 pub crc-append : (c : ℕ) (xs ys : List ℕ) → crc-from c (xs ++ ys) ≡ crc-from (crc-from c xs) ys
 unfolding crc-from
@@ -30,11 +29,3 @@ own-halves c h =
 pub residue : (xs : List ℕ) → Bytes xs → crc-of (xs ++ crc-of xs / 256 ∷ crc-of xs % 256 ∷ []) ≡ 0
 unfolding crc-from
 residue xs bx = crc-append 0 xs _ ∙ own-halves (crc-of xs) (from-below 0 xs (omega arith) bx)
-
-pub no-other : (xs : List ℕ) (h l : ℕ) → Bytes xs → h < 256 → l < 256 → crc-of (xs ++ h ∷ l ∷ []) ≡ 0 → h * 256 + l ≡ crc-of xs
-unfolding crc-from
-no-other xs h l bx hh hl e =
-    let below = from-below 0 xs (omega arith) bx in
-    let pair = same-pair (crc-of xs) h l (crc-of xs / 256) (crc-of xs % 256) below hh hl (omega arith) (omega arith)
-    (sym (crc-append 0 xs _) ∙ e ∙ sym (own-halves (crc-of xs) below)) in
-    ap₂ (λ x y. x * 256 + y) (pair .0) (pair .1) ∙ div-add-mod' (crc-of xs) 256

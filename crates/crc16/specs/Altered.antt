@@ -1,4 +1,4 @@
--- What noise does to a short part of a row of bytes. Assumes nothing.
+-- What noise does to one byte or two. Assumes nothing.
 use mathlib.Core.Path.{_≡_}
 use mathlib.Core.List.{List}
 use Prim.Native.Nat.{ℕ, _+_, _<_}

@@ -1,4 +1,4 @@
-// CRC-16/XMODEM, the checksum of every frame: polynomial 1021, start 0000, highest bit first, no final inversion.
+// CRC-16/XMODEM, the checksum of every frame: polynomial 0x1021, start 0x0000, highest bit first, no final inversion.
 ghost use mathlib.Core.List.{List};
 ghost use mathlib.Core.Path.{_≡_};
 ghost use Prim.Native.Nat.{ℕ};
@@ -9,21 +9,21 @@ mod table;
 
 use table::TABLE;
 
-// The register eight bits on: its upper half goes through the table, its lower half moves up.
+// The register after eight more bits: its upper half goes through the table, its lower half moves up.
 fn eight_bits(register: u16) -> u16
     ensures { λ r. ⌜ r ≡ shifts 8 register ⌝ }
 {
     TABLE[(register >> 8) as usize] ^ (register << 8)
 }
 
-// The register after one byte more.
+// The register after one more byte.
 pub fn step(crc: u16, byte: u8) -> u16
     ensures { λ r. ⌜ r ≡ crc-step crc byte ⌝ }
 {
     eight_bits(crc ^ ((byte as u16) << 8))
 }
 
-// The checksum of `bytes`. No row of bytes that differs from them in one byte, or in two neighbouring ones, has the same.
+// The checksum of `bytes`. No bytes that differ from them in one place, or in two neighbouring ones, have the same.
 pub fn checksum(bytes: &[u8]) -> u16
     ensures value { λ r. ⌜ r ≡ crc-of (now (bytes .entry)) ⌝ }
     ensures neighbours { λ r. ⌜ ((ys : List ℕ) → Bytes ys → Altered (now (bytes .entry)) ys → r ≡ crc-of ys → ⊥) ⌝ }

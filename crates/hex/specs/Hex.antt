@@ -46,7 +46,7 @@ byte-before (Some b) (Some bs) = Some (b ∷ bs)
 byte-before (Some b) None = None
 byte-before None o = None
 
--- The bytes that a text spells, each after one blank; None where it spells none.
+-- The bytes that a text spells, each as two digits after one blank; None where the text is anything else.
 abbrev pub bytes-spelled : List ℕ → Option (List ℕ)
 bytes-spelled [] = Some []
 bytes-spelled (c ∷ []) = None

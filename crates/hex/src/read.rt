@@ -25,7 +25,7 @@ pub fn byte_of(high: u8, low: u8) -> Option<u8>
     Some(value_of(high)? * 16 + value_of(low)?)
 }
 
-// The bytes that a text spells, each after one blank; None where it spells none.
+// The bytes that a text spells, each as two digits after one blank; None where the text is anything else.
 pub fn bytes_of(heap: Global, text: &[u8]) -> Result<Option<Vec<u8>>, AllocError>
     ensures { λ r. ⌜ made r (λ o. mapped vec-items o ≡ bytes-spelled (now (text .entry))) ⌝ }
 {

@@ -14,13 +14,13 @@ use Rattle.std.specs.declared.option.Option.the-variants.{Some, None}
 use Rattle.std.specs.declared.result.Result.the-variants.{Ok, Err}
 use Rattle.crc16.specs.Altered.{Bytes}
 use Rattle.crc16.proofs.Bytes.{bytes-cons, bytes-none}
-use Rattle.wire.specs.Fields.{Answer, Fields, Fit}
+use Rattle.wire.specs.Fields.{ReplyFields, Fields, Fit}
 use Rattle.wire.specs.Frames.{command-frame, reply-frame}
-use Rattle.wire.specs.Laws.{FitAnswer}
-use Rattle.wire.specs.Packing.{told}
+use Rattle.wire.specs.Laws.{FitReply}
+use Rattle.wire.specs.Packing.{write-result}
 use Rattle.wire.proofs.Laws.{frame-bytes, frame-unpacked}
 use Rattle.hex.specs.Hex.{byte-value, bytes-spelled, hex-address, hex-byte, hex-bytes, hex-digit}
-use Rattle.pcframe_lines.specs.Laws.{Answers, command-line, reply-line}
+use Rattle.pcframe_lines.specs.Laws.{LineLaws, command-line, reply-line}
 use Rattle.pcframe_lines.specs.Lines.{answer-to, answered, frame-or-refusal, hex-line, report, report-or-refusal}
 use Rattle.pcframe_lines.specs.Requests.{Asked, asked, asked-by, head-from, head-spelled, packing, packing-of, trimmed, unpacking, unpacking-of}
 use Rattle.hex.proofs.Spelling.{NoReturn, byte-back, bytes-back, none-before, none-in-byte, none-in-bytes}
@@ -52,26 +52,26 @@ command-asked f fit =
     ap asked-by (untrimmed (command-line f) none)
     ∙ ap₂ packing-of (head-back f fit) (bytes-back (f .param) (fit .bytes))
 
-told-all : (n : ℕ) → 1 < n + 1 → n < 257 → told n 7 263 ≡ Ok (n + 7)
-told-all n some few =
+longest-fits : (n : ℕ) → 1 < n + 1 → n < 257 → write-result n 7 263 ≡ Ok (n + 7)
+longest-fits n some few =
     cond-true (leb 1 n && leb n 256) _ _ (and-from _ _ (le-leb 1 n (omega arith)) (le-leb n 256 (omega arith)))
     ∙ cond-true (leb (n + 7) 263) _ _ (le-leb (n + 7) 263 (omega arith))
 
 packs : (f : Fields) → Fit f → answered (command-line f) ≡ hex-line (command-frame f)
 packs f fit =
     ap answer-to (command-asked f fit)
-    ∙ ap (λ r. frame-or-refusal r (hex-line (command-frame f))) (told-all (length (f .param)) (omega (arith, fit .counted .some)) (omega (arith, fit .counted .few)))
+    ∙ ap (λ r. frame-or-refusal r (hex-line (command-frame f))) (longest-fits (length (f .param)) (omega (arith, fit .counted .some)) (omega (arith, fit .counted .few)))
 
 reply-asked : (bs : List ℕ) → Bytes bs → asked (117 ∷ hex-bytes bs) ≡ unpacking bs
 reply-asked bs bytes =
     ap asked-by (untrimmed (117 ∷ hex-bytes bs) (none-before 117 (hex-bytes bs) (omega arith) (none-in-bytes bs))) ∙ ap unpacking-of (bytes-back bs bytes)
 
-unpacks : (a : Answer) → FitAnswer a → answered (reply-line a) ≡ report a
+unpacks : (a : ReplyFields) → FitReply a → answered (reply-line a) ≡ report a
 unpacks a fit =
     let bytes = frame-bytes 0x2E (a .fields) (a .ack ∷ []) (omega arith) (fit .fields) (bytes-cons (a .ack) [] (fit .ack) bytes-none) in
     ap answer-to (reply-asked (reply-frame a) bytes) ∙ ap report-or-refusal (frame-unpacked a (fit .fields .counted))
 
-pub answers : (line : List ℕ) → Answers line
+pub answers : (line : List ℕ) → LineLaws line
 answers line = record {
   packs = λ f fit e. ap answered e ∙ packs f fit;
   unpacks = λ a fit e. ap answered e ∙ unpacks a fit;

@@ -8,10 +8,6 @@ use lib.Dec.{eqb}
 use lib.ListN.{length, getD, take}
 use Rattle.std.proofs.shelf.Lists.{getD-at, length-append, nil-from-length, take-at}
 use Rattle.std.proofs.shelf.Tests.{cond-false, cond-true, eq-eqb, ne-eqb}
-use Rattle.wire.specs.Codes.{ack-code}
-use Rattle.wire.specs.declared.Ack.{Ack}
-use Rattle.wire.specs.declared.Ack.the-variants as ack
-use Rattle.pcframe_lines.specs.Lines.{ack-name, ack-note, in-brackets, named-in}
 use Rattle.pcframe_lines.specs.Requests.{Asked, asked-by, neither, trimmed}
 
 -- ---- the end of a line
@@ -31,16 +27,6 @@ keeps line text last e not = e ∙ sym (trimmed-last line text last e ∙ cond-f
 
 pub keeps-none : (line : List ℕ) → length line ≡ 0 → line ≡ trimmed line
 keeps-none line e = let none = nil-from-length line e in none ∙ ap trimmed (sym none)
-
--- ---- names
-
-unnamed-in : (some : List Ack) (code : ℕ) → ((a : Ack) → ack-code a ≡ code → ⊥) → named-in some code ≡ []
-unnamed-in [] code none = refl
-unnamed-in (a ∷ some) code none =
-    cond-false (eqb (ack-code a) code) (in-brackets (ack-name a)) _ (ne-eqb (ack-code a) code (none a)) ∙ unnamed-in some code none
-
-pub unnamed : (code : ℕ) → ((a : Ack) → ack-code a ≡ code → ⊥) → ack-note code ≡ []
-unnamed code none = unnamed-in (ack.Ok ∷ ack.InvalidCommand ∷ ack.InvalidCrc ∷ ack.InvalidChannel ∷ ack.InvalidParam ∷ ack.GeneralError ∷ []) code none
 
 -- ---- the first character
 

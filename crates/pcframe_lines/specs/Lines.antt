@@ -1,20 +1,20 @@
 -- What pcframe answers to a line. Assumes nothing.
-use mathlib.Core.Bool.{cond}
 use mathlib.Core.List.{List, [], _∷_, _++_}
 use Prim.Native.Nat.{ℕ}
 use lib.Chars.{codes}
-use lib.Dec.{eqb}
 use lib.ListN.{length}
+use Rattle.std.specs.declared.option.Option.{Option}
+use Rattle.std.specs.declared.option.Option.the-variants.{Some, None}
 use Rattle.std.specs.declared.result.Result.{Result}
 use Rattle.std.specs.declared.result.Result.the-variants.{Ok, Err}
 use Rattle.std.specs.Written.{decimal}
-use Rattle.wire.specs.Codes.{ack-code, refusal-number}
+use Rattle.wire.specs.Codes.{ack-of, refusal-number}
 use Rattle.wire.specs.declared.Ack.{Ack}
 use Rattle.wire.specs.declared.Ack.the-variants as ack
 use Rattle.wire.specs.declared.Refusal.{Refusal}
-use Rattle.wire.specs.Fields.{Answer, Fields}
+use Rattle.wire.specs.Fields.{ReplyFields, Fields}
 use Rattle.wire.specs.Frames.{command-frame}
-use Rattle.wire.specs.Packing.{told}
+use Rattle.wire.specs.Packing.{write-result}
 use Rattle.wire.specs.Reading.{unpacked}
 use Rattle.hex.specs.Hex.{hex-address, hex-byte, hex-bytes}
 use Rattle.pcframe_lines.specs.Requests.{Asked, asked, neither, packing, unpacking}
@@ -37,25 +37,17 @@ ack-name ack.InvalidChannel = codes "invalid channel"
 ack-name ack.InvalidParam = codes "invalid parameter"
 ack-name ack.GeneralError = codes "general error"
 
--- A name as it stands behind its code.
-abbrev pub in-brackets : List ℕ → List ℕ
-in-brackets name = codes " (" ++ (name ++ codes ")")
-
--- The first of some acknowledgements that has the code, by its name; nothing where none has it.
-abbrev pub named-in : List Ack → ℕ → List ℕ
-named-in [] code = []
-named-in (a ∷ rest) code = cond (eqb (ack-code a) code) (in-brackets (ack-name a)) (named-in rest code)
-
 -- The name behind an ACK byte, where it has one.
-abbrev pub ack-note : ℕ → List ℕ
-ack-note code = named-in (ack.Ok ∷ ack.InvalidCommand ∷ ack.InvalidCrc ∷ ack.InvalidChannel ∷ ack.InvalidParam ∷ ack.GeneralError ∷ []) code
+abbrev pub ack-note : Option Ack → List ℕ
+ack-note None = []
+ack-note (Some a) = codes " (" ++ (ack-name a ++ codes ")")
 
 -- An ACK byte as it is answered.
 abbrev pub ack-text : ℕ → List ℕ
-ack-text code = hex-byte code ++ ack-note code
+ack-text code = hex-byte code ++ ack-note (ack-of code)
 
 -- A reply taken apart, as it is answered.
-abbrev pub report : Answer → List ℕ
+abbrev pub report : ReplyFields → List ℕ
 report a =
     codes "command " ++ (hex-byte (a .fields .command) ++ (codes " address " ++ (hex-address (a .fields .address)
     ++ (codes " ACK " ++ (ack-text (a .ack) ++ (codes " parameter" ++ hex-bytes (a .fields .param)))))))
@@ -66,13 +58,13 @@ frame-or-refusal (Ok n) text = text
 frame-or-refusal (Err r) text = refusal-line r
 
 -- A reply, or the refusal to unpack it.
-abbrev pub report-or-refusal : Result Answer Refusal → List ℕ
+abbrev pub report-or-refusal : Result ReplyFields Refusal → List ℕ
 report-or-refusal (Ok a) = report a
 report-or-refusal (Err r) = refusal-line r
 
 -- What is answered to a command: its frame, or the refusal to pack it into a buffer for the longest command.
 abbrev pub packed-line : Fields → List ℕ
-packed-line f = frame-or-refusal (told (length (f .param)) 7 263) (hex-line (command-frame f))
+packed-line f = frame-or-refusal (write-result (length (f .param)) 7 263) (hex-line (command-frame f))
 
 -- What is answered to the bytes of a reply.
 abbrev pub unpacked-line : List ℕ → List ℕ

@@ -44,7 +44,7 @@ packing-of None p = neither
 packing-of (Some head) None = neither
 packing-of (Some head) (Some param) = packing (record { command = head .0; address = head .1; param = param })
 
--- An unpacking, if there are bytes.
+-- An unpacking, if the text is one of bytes.
 abbrev pub unpacking-of : Option (List ℕ) → Asked
 unpacking-of None = neither
 unpacking-of (Some bytes) = unpacking bytes

@@ -1,8 +1,8 @@
 ghost use mathlib.Core.Path.{_≡_};
 ghost use Rattle.std.specs.Of.String.{string-bytes};
 ghost use Rattle.std.specs.Vec.{made};
-ghost use Rattle.wire.specs.Fields.{answer-of, fields-of};
-ghost use Rattle.pcframe_lines.specs.Laws.{Answers};
+ghost use Rattle.wire.specs.Fields.{reply-fields-of, fields-of};
+ghost use Rattle.pcframe_lines.specs.Laws.{LineLaws};
 ghost use Rattle.pcframe_lines.specs.Lines.{answered, hex-line, packed-line, refusal-line, report, unpacked-line};
 use crate::acks::AckByte;
 use crate::acks::AckByteDisplay;
@@ -35,7 +35,7 @@ fn refused(heap: Global, refusal: Refusal) -> Result<String, AllocError>
 
 // A reply taken apart, as it is answered.
 fn report_of(heap: Global, reply: Reply<'_>) -> Result<String, AllocError>
-    ensures { λ r. ⌜ made r (λ s. string-bytes s ≡ report (answer-of (reply .entry))) ⌝ }
+    ensures { λ r. ⌜ made r (λ s. string-bytes s ≡ report (reply-fields-of (reply .entry))) ⌝ }
 {
     let command = Hex(reply.message.command);
     let address = Address(reply.message.address);
@@ -83,7 +83,7 @@ fn unpacked_as(heap: Global, bytes: &[u8]) -> Result<String, AllocError>
 // What is answered to a line.
 pub fn answer(heap: Global, line: &[u8]) -> Result<String, AllocError>
     ensures text { λ r. ⌜ made r (λ s. string-bytes s ≡ answered (now (line .entry))) ⌝ }
-    ensures laws { λ _. ⌜ Answers (now (line .entry)) ⌝ }
+    ensures laws { λ _. ⌜ LineLaws (now (line .entry)) ⌝ }
 {
     match parse(heap, line)? {
         Request::Pack {

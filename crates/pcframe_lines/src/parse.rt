@@ -2,7 +2,7 @@ ghost use mathlib.Core.Path.{_≡_};
 ghost use lib.ListN.{drop};
 ghost use Rattle.std.specs.Vec.{made};
 ghost use Rattle.hex.specs.Hex.{bytes-spelled};
-ghost use Rattle.pcframe_lines.specs.Laws.{Answers};
+ghost use Rattle.pcframe_lines.specs.Laws.{LineLaws};
 ghost use Rattle.pcframe_lines.specs.Requests.{asked, asked-by, head-spelled, packing-of, request-as, trimmed, unpacking-of};
 use crate::request::Request;
 use hex::byte_of;
@@ -81,7 +81,7 @@ fn request_of(heap: Global, line: &[u8]) -> Result<Request, AllocError>
 // What a line asks for.
 pub(crate) fn parse(heap: Global, line: &[u8]) -> Result<Request, AllocError>
     ensures value { λ r. ⌜ made r (λ q. request-as q ≡ asked (now (line .entry))) ⌝ }
-    ensures laws { λ _. ⌜ Answers (now (line .entry)) ⌝ }
+    ensures laws { λ _. ⌜ LineLaws (now (line .entry)) ⌝ }
 {
     request_of(heap, trim(line))
 }

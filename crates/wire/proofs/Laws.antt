@@ -17,11 +17,11 @@ use Rattle.crc16.proofs.Bytes.{bytes-append, bytes-cons, bytes-drop, bytes-none
 use Rattle.crc16.proofs.Neighbours.{from-below, neighbours}
 use Rattle.crc16.proofs.Residue.{residue}
 use Rattle.wire.specs.declared.refusal.Refusal.the-variants.{NotAReply, ParamCount, ShortBuffer, WrongCrc}
-use Rattle.wire.specs.Fields.{Answer, Counted, Fields, Fit}
+use Rattle.wire.specs.Fields.{ReplyFields, CountFits, Fields, Fit}
 use Rattle.wire.specs.Frames.{big-endian, command-frame, frame, header, param-count, param-len, reply-frame, with-crc}
-use Rattle.wire.specs.Laws.{FitAnswer, Noisy, Replies, Commands}
-use Rattle.wire.specs.Packing.{told}
-use Rattle.wire.specs.Reading.{Heard, intact, damaged, count-in, crc-right, fields-in, heard, heard-in, number-at, shaped, unpacked}
+use Rattle.wire.specs.Laws.{FitReply, Noisy, Replies, Commands}
+use Rattle.wire.specs.Packing.{write-result}
+use Rattle.wire.specs.Reading.{FrameRead, intact, damaged, count-in, crc-right, fields-in, command-in, frame-in, number-at, shaped, unpacked}
 use Rattle.wire.proofs.Shapes.{shape-met, shape-parts}
 use Rattle.wire.proofs.Trips.{Whole, Framed, there, back, extra-in}
 
@@ -59,11 +59,11 @@ crc-wrong start f extra bs first fit some bytes noisy =
     let shape = shape-met start (length extra + 7) bs (noisy .start) long in
     let right : crc-right bs ≡ true → ⊥ = λ e.
     let framed = back start (length extra + 7) bs (omega arith) bytes shape e in
-    let others = bytes-take (length extra + 7 - 7) (drop (count-in bs) (drop 5 bs)) (bytes-drop (count-in bs) (drop 5 bs) (bytes-drop 5 bs bytes)) in
+    let overhead = bytes-take (length extra + 7 - 7) (drop (count-in bs) (drop 5 bs)) (bytes-drop (count-in bs) (drop 5 bs) (bytes-drop 5 bs bytes)) in
     neighbours (frame start f extra) bs (frame-bytes start f extra first fit some) bytes (noisy .altered)
     (residue (header start f ++ (f .param ++ extra)) (body-bytes start f extra first fit some)
     ∙ sym (ap crc-of (framed .same) ∙ residue (header start (fields-in bs) ++ (fields-in bs .param ++ extra-in (length extra + 7) bs))
-    (body-bytes start (fields-in bs) (extra-in (length extra + 7) bs) first (framed .fit) others))) in
+    (body-bytes start (fields-in bs) (extra-in (length extra + 7) bs) first (framed .fit) overhead))) in
     (shape, ⊎-elim (λ e. absurd (right e)) (λ e. e) (cases-bool (crc-right bs)))
 
 -- ---- what a cond of two tests says
@@ -80,14 +80,14 @@ some-parts false c f g p q h = absurd (let z : _≡_ {A = ℕ} 0 1 = cc in omega
 
 -- ---- commands
 
-pub frame-heard : (start : ℕ) (f : Fields) (extra : List ℕ) → Counted (f .param) → heard-in start (length extra + 7) (frame start f extra) ≡ Some (intact f)
-frame-heard start f extra counted =
+pub frame-read : (start : ℕ) (f : Fields) (extra : List ℕ) → CountFits (f .param) → frame-in start (length extra + 7) (frame start f extra) ≡ Some (intact f)
+frame-read start f extra counted =
     let whole = there start f extra counted in
     let bs = frame start f extra in
     ap₂ (λ s c. cond s (Some (cond c (intact (fields-in bs)) (damaged (getD bs 1 0) (number-at bs 2)))) None) (whole .shape) (whole .crc)
     ∙ ap (λ g. Some (intact g)) (whole .fields)
 
-only-command : (bs : List ℕ) (f : Fields) → Bytes bs → heard bs ≡ Some (intact f) → (bs ≡ command-frame f) × Fit f
+only-command : (bs : List ℕ) (f : Fields) → Bytes bs → command-in bs ≡ Some (intact f) → (bs ≡ command-frame f) × Fit f
 only-command bs f bytes e =
     let parts = some-parts (shaped 0x2F 7 bs) (crc-right bs) (fields-in bs) f (getD bs 1 0) (number-at bs 2) e in
     let framed = back 0x2F 7 bs (omega arith) bytes (parts .0) (parts .1) in
@@ -96,7 +96,7 @@ only-command bs f bytes e =
 
 pub commands : (bs : List ℕ) → Bytes bs → Commands bs
 commands bs bytes = record {
-  exactly = λ f fit e. ap heard e ∙ frame-heard 0x2F f [] (fit .counted);
+  exactly = λ f fit e. ap command-in e ∙ frame-read 0x2F f [] (fit .counted);
   only = λ f e. only-command bs f bytes e;
   noise = λ f fit noisy.
       let wrong = crc-wrong 0x2F f [] bs (omega arith) fit bytes-none bytes noisy in
@@ -106,7 +106,7 @@ commands bs bytes = record {
 -- ---- replies
 
 -- the ACK is the third byte from the end
-ack-at : (a : Answer) → getD (reply-frame a) (length (reply-frame a) - 3) 0 ≡ a .ack
+ack-at : (a : ReplyFields) → getD (reply-frame a) (length (reply-frame a) - 3) 0 ≡ a .ack
 ack-at a =
     let f = a .fields in
     let before = header 0x2E f ++ f .param in
@@ -117,7 +117,7 @@ ack-at a =
     ap (λ l. header 0x2E f ++ l) (append-assoc (f .param) (a .ack ∷ []) (big-endian (crc-of body))) in
     ap (λ k. getD (reply-frame a) k 0) place ∙ ap (λ l. getD l (length before) 0) split ∙ getD-at before (a .ack) _ 0 (length before) refl
 
-pub frame-unpacked : (a : Answer) → Counted (a .fields .param) → unpacked (reply-frame a) ≡ Ok a
+pub frame-unpacked : (a : ReplyFields) → CountFits (a .fields .param) → unpacked (reply-frame a) ≡ Ok a
 frame-unpacked a counted =
     let bs = reply-frame a in
     let whole = there 0x2E (a .fields) (a .ack ∷ []) counted in
@@ -129,7 +129,7 @@ one-place [] e = absurd (omega arith)
 one-place (x ∷ []) e = refl
 one-place (x ∷ y ∷ xs) e = absurd (omega arith)
 
-only-reply : (bs : List ℕ) (a : Answer) → Bytes bs → unpacked bs ≡ Ok a → (bs ≡ reply-frame a) × FitAnswer a
+only-reply : (bs : List ℕ) (a : ReplyFields) → Bytes bs → unpacked bs ≡ Ok a → (bs ≡ reply-frame a) × FitReply a
 only-reply bs a bytes e =
     let parts = ok-parts (shaped 0x2E 8 bs) (crc-right bs) (record { fields = fields-in bs; ack = getD bs (length bs - 3) 0 }) a WrongCrc NotAReply e in
     let framed = back 0x2E 8 bs (omega arith) bytes (parts .0) (parts .1) in
@@ -138,7 +138,7 @@ only-reply bs a bytes e =
     framed .same ∙ ap (frame 0x2E (fields-in bs)) (one-place (extra-in 8 bs) (omega (arith, framed .extra))) in
     let acked : getD bs (length bs - 3) 0 ≡ last = ap (λ l. getD l (length l - 3) 0) same ∙ ack-at (record { fields = fields-in bs; ack = last }) in (
       same ∙ ap (λ k. reply-frame (record { fields = fields-in bs; ack = k })) (sym acked) ∙ ap reply-frame (parts .2),
-      subst FitAnswer (parts .2) (record { fields = framed .fit; ack = bytes (length bs - 3) }),
+      subst FitReply (parts .2) (record { fields = framed .fit; ack = bytes (length bs - 3) }),
     )
 
 pub replies : (bs : List ℕ) → Bytes bs → Replies bs
@@ -153,8 +153,8 @@ replies bs bytes = record {
 -- ---- what was written is read
 
 -- the front of a buffer that a frame was written to is the frame
-pub written : (start : ℕ) (f : Fields) (extra out rest : List ℕ) (space n : ℕ) → told (length (f .param)) (length extra + 7) space ≡ Ok n
-    → out ≡ frame start f extra ++ rest → (take n out ≡ frame start f extra) × Counted (f .param)
+pub written : (start : ℕ) (f : Fields) (extra out rest : List ℕ) (space n : ℕ) → write-result (length (f .param)) (length extra + 7) space ≡ Ok n
+    → out ≡ frame start f extra ++ rest → (take n out ≡ frame start f extra) × CountFits (f .param)
 written start f extra out rest space n e same =
     let k = length (f .param) in
     let parts = ok-parts (leb 1 k && leb k 256) (leb (k + (length extra + 7)) space) (k + (length extra + 7)) n ShortBuffer ParamCount e in
@@ -166,13 +166,13 @@ written start f extra out rest space n e same =
       record { some = leb-true 1 k (counted .0); few = leb-true k 256 (counted .1) },
     )
 
-pub written-heard : (start : ℕ) (f : Fields) (extra out rest : List ℕ) (space n : ℕ) → told (length (f .param)) (length extra + 7) space ≡ Ok n
-    → out ≡ frame start f extra ++ rest → heard-in start (length extra + 7) (take n out) ≡ Some (intact f)
-written-heard start f extra out rest space n e same =
+pub written-read : (start : ℕ) (f : Fields) (extra out rest : List ℕ) (space n : ℕ) → write-result (length (f .param)) (length extra + 7) space ≡ Ok n
+    → out ≡ frame start f extra ++ rest → frame-in start (length extra + 7) (take n out) ≡ Some (intact f)
+written-read start f extra out rest space n e same =
     let front = written start f extra out rest space n e same in
-    ap (heard-in start (length extra + 7)) (front .0) ∙ frame-heard start f extra (front .1)
+    ap (frame-in start (length extra + 7)) (front .0) ∙ frame-read start f extra (front .1)
 
-pub written-unpacked : (start : ℕ) (f : Fields) (extra out rest : List ℕ) (space n : ℕ) → told (length (f .param)) (length extra + 7) space ≡ Ok n
+pub written-unpacked : (start : ℕ) (f : Fields) (extra out rest : List ℕ) (space n : ℕ) → write-result (length (f .param)) (length extra + 7) space ≡ Ok n
     → out ≡ frame start f extra ++ rest → start ≡ 0x2E → length extra ≡ 1
     → unpacked (take n out) ≡ Ok (record { fields = f; ack = getD extra 0 0 })
 written-unpacked start f extra out rest space n e same first one =

@@ -14,7 +14,7 @@ use Rattle.std.proofs.shelf.Tests.{cond-both, cond-false, eq-eqb, eqb-true, ne-
 use Rattle.crc16.specs.Altered.{Bytes}
 use Rattle.crc16.specs.Crc.{crc-of}
 use Rattle.crc16.proofs.Bytes.{bytes-drop, bytes-take}
-use Rattle.wire.specs.Fields.{Fields, Fit, Counted}
+use Rattle.wire.specs.Fields.{Fields, Fit, CountFits}
 use Rattle.wire.specs.Frames.{param-len, param-count, big-endian, with-crc, header, frame}
 use Rattle.wire.specs.Reading.{number-at, count-in, shaped, fields-in, crc-right}
 use Rattle.wire.proofs.Shapes.{count-some, shape-met, shape-parts}
@@ -45,12 +45,12 @@ crc-met body =
     eq-eqb _ _ (ap (λ k. crc-of (take k (with-crc body))) end ∙ ap crc-of (take-at body _ n refl)
     ∙ sym (ap (number-at (with-crc body)) end ∙ ap₂ (λ x y. x * 256 + y) high low ∙ div-add-mod' (crc-of body) 256))
 
-pub record Whole (start others : ℕ) (f : Fields) (bs : List ℕ) : Type 0 where
-  pub shape : shaped start others bs ≡ true
+pub record Whole (start overhead : ℕ) (f : Fields) (bs : List ℕ) : Type 0 where
+  pub shape : shaped start overhead bs ≡ true
   pub crc : crc-right bs ≡ true
   pub fields : fields-in bs ≡ f
 
-pub there : (start : ℕ) (f : Fields) (extra : List ℕ) → Counted (f .param) → Whole start (length extra + 7) f (frame start f extra)
+pub there : (start : ℕ) (f : Fields) (extra : List ℕ) → CountFits (f .param) → Whole start (length extra + 7) f (frame start f extra)
 there start f extra counted =
     let n = length (f .param) in
     let body = header start f ++ (f .param ++ extra) in
@@ -70,12 +70,12 @@ there start f extra counted =
 
 -- what stands between the parameter and the CRC
 abbrev pub extra-in : ℕ → List ℕ → List ℕ
-extra-in others bs = take (others - 7) (drop (count-in bs) (drop 5 bs))
+extra-in overhead bs = take (overhead - 7) (drop (count-in bs) (drop 5 bs))
 
-pub record Framed (start others : ℕ) (bs : List ℕ) : Type 0 where
-  pub same : bs ≡ frame start (fields-in bs) (extra-in others bs)
+pub record Framed (start overhead : ℕ) (bs : List ℕ) : Type 0 where
+  pub same : bs ≡ frame start (fields-in bs) (extra-in overhead bs)
   pub fit : Fit (fields-in bs)
-  pub extra : length (extra-in others bs) + 7 ≡ others
+  pub extra : length (extra-in overhead bs) + 7 ≡ overhead
 
 high : (h l : ℕ) → l < 256 → h ≡ (h * 256 + l) / 256
 high h l b = omega arith
@@ -103,24 +103,24 @@ first-five (a ∷ b ∷ c ∷ []) j h = absurd (omega arith)
 first-five (a ∷ b ∷ c ∷ d ∷ []) j h = absurd (omega arith)
 first-five (a ∷ b ∷ c ∷ d ∷ e ∷ bs) j h = take-add 5 j (a ∷ b ∷ c ∷ d ∷ e ∷ bs)
 
-pub back : (start others : ℕ) (bs : List ℕ) → 7 ≤ others → Bytes bs → shaped start others bs ≡ true → crc-right bs ≡ true → Framed start others bs
-back start others bs seven bytes shape crc =
+pub back : (start overhead : ℕ) (bs : List ℕ) → 7 ≤ overhead → Bytes bs → shaped start overhead bs ≡ true → crc-right bs ≡ true → Framed start overhead bs
+back start overhead bs seven bytes shape crc =
     let n = count-in bs in
-    let k = others - 7 in
+    let k = overhead - 7 in
     let m = length bs - 2 in
     let f = fields-in bs in
-    let first : getD bs 0 0 ≡ start = shape-parts start others bs shape .0 in
-    let long : length bs ≡ n + others = shape-parts start others bs shape .1 in
+    let first : getD bs 0 0 ≡ start = shape-parts start overhead bs shape .0 in
+    let long : length bs ≡ n + overhead = shape-parts start overhead bs shape .1 in
     let some : 1 ≤ n = count-some (getD bs 4 0) in
     let few : n ≤ 256 = count-few (getD bs 4 0) (bytes 4) in
     let sum : crc-of (take m bs) ≡ number-at bs m = eqb-true (crc-of (take m bs)) (number-at bs m) crc in
     let param-long : length (f .param) ≡ n = length-take-le n (drop 5 bs) (omega (arith, length-drop 5 bs)) in
-    let extra-long : length (extra-in others bs) ≡ k = length-take-le k (drop n (drop 5 bs)) (omega (arith, length-drop n (drop 5 bs), length-drop 5 bs)) in
+    let extra-long : length (extra-in overhead bs) ≡ k = length-take-le k (drop n (drop 5 bs)) (omega (arith, length-drop n (drop 5 bs), length-drop 5 bs)) in
     let end : m ≡ 5 + (n + k) = omega arith in
     let head : getD bs 0 0 ∷ getD bs 1 0 ∷ getD bs 2 0 ∷ getD bs 3 0 ∷ getD bs 4 0 ∷ [] ≡ header start f =
     λ i. first i ∷ getD bs 1 0 ∷ high (getD bs 2 0) (getD bs 3 0) (bytes 3) i ∷ low (getD bs 2 0) (getD bs 3 0) (bytes 3) i
     ∷ (sym (ap param-len param-long ∙ len-count (getD bs 4 0) (bytes 4))) i ∷ [] in
-    let body : take m bs ≡ header start f ++ (f .param ++ extra-in others bs) =
+    let body : take m bs ≡ header start f ++ (f .param ++ extra-in overhead bs) =
     ap (λ j. take j bs) end ∙ first-five bs (n + k) (omega arith) ∙ ap₂ _++_ head (take-add n k (drop 5 bs)) in
     record {
       same = last-two bs m (omega arith) ∙ ap (λ l. take m bs ++ l) (sym (ap big-endian sum ∙ two (getD bs m 0) (getD bs (m + 1) 0) (bytes (m + 1)))) ∙ ap with-crc body;

@@ -4,7 +4,7 @@ use Prim.Native.Nat.{ℕ, _≤_, _<_}
 use lib.ListN.{length}
 use Rattle.crc16.specs.Altered.{Bytes}
 use Rattle.wire.specs.declared.message.Message.{Message}
-use Rattle.wire.specs.declared.message.Reply.{Reply as Taken}
+use Rattle.wire.specs.declared.message.Reply.{Reply}
 
 -- What a command and a reply have in common.
 pub record Fields : Type 0 where
@@ -13,7 +13,7 @@ pub record Fields : Type 0 where
   pub param : List ℕ
 
 -- What a reply carries: it has an ACK besides.
-pub record Answer : Type 0 where
+pub record ReplyFields : Type 0 where
   pub fields : Fields
   pub ack : ℕ
 
@@ -21,12 +21,12 @@ pub record Answer : Type 0 where
 abbrev pub fields-of : Message → Fields
 fields-of m = record { command = m .command; address = m .address; param = m .param .now }
 
--- The contents of the code's `Reply`.
-abbrev pub answer-of : Taken → Answer
-answer-of r = record { fields = fields-of (r .message); ack = r .ack }
+-- The fields of the code's `Reply`.
+abbrev pub reply-fields-of : Reply → ReplyFields
+reply-fields-of r = record { fields = fields-of (r .message); ack = r .ack }
 
 -- The parameter has 1 to 256 bytes.
-pub record Counted (param : List ℕ) : Type 0 where
+pub record CountFits (param : List ℕ) : Type 0 where
   pub some : 1 ≤ length param
   pub few : length param ≤ 256
 
@@ -35,4 +35,4 @@ pub record Fit (f : Fields) : Type 0 where
   pub command : f .command < 256
   pub address : f .address < 65536
   pub bytes : Bytes (f .param)
-  pub counted : Counted (f .param)
+  pub counted : CountFits (f .param)

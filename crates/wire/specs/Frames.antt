@@ -5,9 +5,9 @@ use Prim.Native.Nat.{ℕ, _/_, _%_}
 use lib.Dec.{eqb}
 use lib.ListN.{length}
 use Rattle.crc16.specs.Crc.{crc-of}
-use Rattle.wire.specs.Fields.{Fields, Answer}
+use Rattle.wire.specs.Fields.{Fields, ReplyFields}
 
--- PARAM_LEN for n parameter bytes: n itself, and 00 for 256.
+-- PARAM_LEN for 1 to 256 parameter bytes: the count itself, and 00 for 256.
 abbrev pub param-len : ℕ → ℕ
 param-len n = cond (eqb n 256) 0 n
 
@@ -23,7 +23,7 @@ big-endian n = n / 256 ∷ n % 256 ∷ []
 abbrev pub header : ℕ → Fields → List ℕ
 header start f = start ∷ f .command ∷ f .address / 256 ∷ f .address % 256 ∷ param-len (length (f .param)) ∷ []
 
--- A row of bytes with its CRC behind it.
+-- Bytes with their CRC behind them.
 abbrev pub with-crc : List ℕ → List ℕ
 with-crc body = body ++ big-endian (crc-of body)
 
@@ -36,5 +36,5 @@ abbrev pub command-frame : Fields → List ℕ
 command-frame f = frame 0x2F f []
 
 -- The bytes of a reply.
-abbrev pub reply-frame : Answer → List ℕ
+abbrev pub reply-frame : ReplyFields → List ℕ
 reply-frame a = frame 0x2E (a .fields) (a .ack ∷ [])

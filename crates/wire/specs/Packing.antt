@@ -10,16 +10,16 @@ use Rattle.std.specs.declared.result.Result.the-variants.{Ok, Err}
 use Rattle.wire.specs.declared.refusal.Refusal.{Refusal}
 use Rattle.wire.specs.declared.refusal.Refusal.the-variants.{ShortBuffer, ParamCount}
 
--- What is told: the frame's length, `count` parameter bytes and `others` besides. Refused are, first, no parameter byte
--- or more than 256, then a buffer of fewer bytes than the frame.
-abbrev pub told : (count others space : ℕ) → Result ℕ Refusal
-told count others space =
-    cond (leb 1 count && leb count 256) (cond (leb (count + others) space) (Ok (count + others)) (Err ShortBuffer)) (Err ParamCount)
+-- The result: the length of the frame, which has `count` parameter bytes and `overhead` other bytes. No parameter byte, or
+-- more than 256, is refused first, then a buffer that is shorter than the frame.
+abbrev pub write-result : (count overhead space : ℕ) → Result ℕ Refusal
+write-result count overhead space =
+    cond (leb 1 count && leb count 256) (cond (leb (count + overhead) space) (Ok (count + overhead)) (Err ShortBuffer)) (Err ParamCount)
 
 -- The buffer after: the frame at its front and the rest as it was, or all as it was after a refusal.
-abbrev pub after : Result ℕ Refusal → List ℕ → List ℕ → List ℕ
-after r bytes buffer = cond (isOk r) (bytes ++ drop (length bytes) buffer) buffer
+abbrev pub buffer-after : Result ℕ Refusal → List ℕ → List ℕ → List ℕ
+buffer-after r bytes buffer = cond (isOk r) (bytes ++ drop (length bytes) buffer) buffer
 
--- A buffer with a part laid into it from place `at` on.
-abbrev pub laid : List ℕ → ℕ → List ℕ → List ℕ
-laid buffer at part = take at buffer ++ (part ++ drop (at + length part) buffer)
+-- A buffer with a part copied into it from place `at` on.
+abbrev pub written-at : List ℕ → ℕ → List ℕ → List ℕ
+written-at buffer at part = take at buffer ++ (part ++ drop (at + length part) buffer)

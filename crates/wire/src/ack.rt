@@ -1,6 +1,5 @@
 ghost use mathlib.Core.Path.{_≡_};
-ghost use Rattle.std.specs.Options.{Cases};
-ghost use Rattle.wire.specs.Codes.{ack-code};
+ghost use Rattle.wire.specs.Codes.{ack-code, ack-of};
 
 // What the interface says of a command, the ACK of its reply.
 #[derive(Clone, Copy)]
@@ -30,7 +29,7 @@ impl Ack {
 
     // What a reply's byte stands for, if it stands for anything.
     pub fn from_code(code: u8) -> Option<Ack>
-        ensures { λ r. ⌜ Cases r ((a : Ack) → ack-code a ≡ code → ⊥) (λ a. ack-code a ≡ code) ⌝ }
+        ensures { λ r. ⌜ r ≡ ack-of code ⌝ }
     {
         match code {
             0x00 => Some(Ack::Ok),

@@ -12,10 +12,10 @@ pub(crate) const REPLY_START: u8 = 0x2E;
 pub(crate) const HEADER: usize = 5;
 
 // How many bytes a command has besides its parameter: the header and the CRC.
-pub(crate) const COMMAND_OTHERS: usize = 7;
+pub(crate) const COMMAND_OVERHEAD: usize = 7;
 
 // How many bytes a reply has besides its parameter: the header, the ACK and the CRC.
-pub(crate) const REPLY_OTHERS: usize = 8;
+pub(crate) const REPLY_OVERHEAD: usize = 8;
 
 // How many parameter bytes PARAM_LEN announces.
 pub(crate) fn count_of(len: u8) -> usize

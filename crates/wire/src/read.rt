@@ -4,11 +4,10 @@ ghost use lib.ListN.{length};
 ghost use Rattle.std.specs.Options.{mapped};
 ghost use Rattle.wire.specs.Fields.{fields-of};
 ghost use Rattle.wire.specs.Laws.{Commands, Replies};
-ghost use Rattle.wire.specs.Reading.{command-told, crc-right, heard, reply-told, shaped-fields, unpacked};
-use crate::layout::COMMAND_OTHERS;
+ghost use Rattle.wire.specs.Reading.{command-result, crc-right, command-in, reply-result, shaped-fields, unpacked};
+use crate::layout::COMMAND_OVERHEAD;
 use crate::layout::COMMAND_START;
-use crate::layout::HEADER;
-use crate::layout::REPLY_OTHERS;
+use crate::layout::REPLY_OVERHEAD;
 use crate::layout::REPLY_START;
 use crate::layout::count_of;
 use crate::message::Message;
@@ -17,11 +16,11 @@ use crate::message::Reply;
 use crate::refusal::Refusal;
 use crc16::checksum;
 
-// Takes apart the bytes of a frame that begins with `start` and has `others` bytes besides its parameter; None where they
-// have not its shape. The CRC is not looked at.
-fn take_apart(bytes: &[u8], start: u8, others: usize) -> Option<Message<'_>>
-    requires { ⌜ others ≤ 8 ⌝ ∗ ⌜ 7 ≤ others ⌝ }
-    ensures value { λ r. ⌜ mapped fields-of r ≡ shaped-fields start others (now (bytes .entry)) ⌝ }
+// Takes apart the bytes of a frame that begins with `start` and has `overhead` bytes besides its parameter; None where they
+// do not have its shape. The CRC is not looked at.
+fn take_apart(bytes: &[u8], start: u8, overhead: usize) -> Option<Message<'_>>
+    requires { ⌜ overhead ≤ 8 ⌝ ∗ ⌜ 7 ≤ overhead ⌝ }
+    ensures value { λ r. ⌜ mapped fields-of r ≡ shaped-fields start overhead (now (bytes .entry)) ⌝ }
     ensures commands { λ _. ⌜ Commands (now (bytes .entry)) ⌝ }
     ensures replies { λ _. ⌜ Replies (now (bytes .entry)) ⌝ }
 {
@@ -29,7 +28,7 @@ fn take_apart(bytes: &[u8], start: u8, others: usize) -> Option<Message<'_>>
         return None;
     };
     let count = count_of(*len);
-    if *first != start || bytes.len() != count + others {
+    if *first != start || bytes.len() != count + overhead {
         return None;
     }
     let (param, _) = rest.split_at(count);
@@ -51,10 +50,10 @@ fn crc_right(bytes: &[u8]) -> bool
 
 // The interface's end: what the bytes of a whole command frame say; None where they are no such frame.
 pub fn read_command(bytes: &[u8]) -> Option<Received<'_>>
-    ensures told { λ r. ⌜ command-told r ≡ heard (now (bytes .entry)) ⌝ }
+    ensures result { λ r. ⌜ command-result r ≡ command-in (now (bytes .entry)) ⌝ }
     ensures laws { λ _. ⌜ Commands (now (bytes .entry)) ⌝ }
 {
-    let message = take_apart(bytes, COMMAND_START, COMMAND_OTHERS)?;
+    let message = take_apart(bytes, COMMAND_START, COMMAND_OVERHEAD)?;
     if crc_right(bytes) {
         Some(Received::Intact(message))
     } else {
@@ -67,10 +66,10 @@ pub fn read_command(bytes: &[u8]) -> Option<Received<'_>>
 
 // The PC's end: takes the bytes of a reply apart. The parameter is a part of them.
 pub fn unpack(bytes: &[u8]) -> Result<Reply<'_>, Refusal>
-    ensures told { λ r. ⌜ reply-told r ≡ unpacked (now (bytes .entry)) ⌝ }
+    ensures result { λ r. ⌜ reply-result r ≡ unpacked (now (bytes .entry)) ⌝ }
     ensures laws { λ _. ⌜ Replies (now (bytes .entry)) ⌝ }
 {
-    let message = take_apart(bytes, REPLY_START, REPLY_OTHERS).ok_or(Refusal::NotAReply)?;
+    let message = take_apart(bytes, REPLY_START, REPLY_OVERHEAD).ok_or(Refusal::NotAReply)?;
     if !crc_right(bytes) {
         return Err(Refusal::WrongCrc);
     }

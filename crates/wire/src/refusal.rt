@@ -21,7 +21,7 @@ pub enum Refusal {
 }
 
 impl Refusal {
-    // The number by which it is told.
+    // Its number.
     pub fn number(self) -> u8
         ensures { λ r. ⌜ r ≡ refusal-number self ⌝ }
     {

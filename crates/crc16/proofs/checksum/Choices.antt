@@ -1,7 +1,6 @@
 use mathlib.Core.Path.{_≡_}
 use lib.ListN.{drop}
 use Rattle.crc16.specs.Crc.{crc-from}
-use Rattle.crc16.proofs.Neighbours.{same-byte}
 use Rattle.crc16.proofs.checksum.Given as given
 
 -- what is left brings the register to the checksum

@@ -1,5 +1,3 @@
-use mathlib.Core.List.{List}
-use Prim.Native.Nat.{ℕ}
 use borrow.Author.Needs.{needs}
 use Rattle.crc16.specs.Altered.{Bytes}
 use Rattle.wire.proofs.Laws.{commands, replies}
@@ -21,7 +19,7 @@ returns c =
     let bytes : Bytes (c .args .bytes .now) = λ k. c .typed .bytes k .fits in
     record {
       value =
-          fields-met (c .args .start) (c .args .others) (c .count-of-count .result) _ (c .args .bytes .now) _
+          fields-met (c .args .start) (c .args .overhead) (c .count-of-count .result) _ (c .args .bytes .now) _
           (c .if-first-start .left) (c .count-of-count .ensures) (c .if-bytes-count .left) (c .from-be-bytes .ensures) (c .split-at .ensures .front);
       commands = commands _ bytes;
       replies = replies _ bytes;

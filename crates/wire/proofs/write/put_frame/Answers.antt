@@ -4,8 +4,8 @@ use lib.ListN.{length, drop}
 use Rattle.std.specs.declared.result.Result.the-variants.{Ok}
 use Rattle.wire.specs.Fields.{fields-of}
 use Rattle.wire.specs.Frames.{frame}
-use Rattle.wire.specs.Packing.{told}
-use Rattle.wire.proofs.Laws.{written, written-heard, written-unpacked}
+use Rattle.wire.specs.Packing.{write-result}
+use Rattle.wire.proofs.Laws.{written, written-read, written-unpacked}
 use Rattle.wire.proofs.Laying.{frame-laid}
 use Rattle.wire.proofs.write.put_frame.Needs as need
 
@@ -16,12 +16,12 @@ returns c =
     let extra = c .args .extra .now in
     let out = c .args .out .now in
     let done = sym (c .in-Continue-len .was tt) ∙ c .frame-len .ensures in
-    let buffer : c .seal .last .out ≡ frame start f extra ++ drop (length (frame start f extra)) out =
-    frame-laid start f extra _ out _ _ _ _ (c .header-of .ensures) (c .put .ensures) (c .put-2 .ensures) (c .put-3 .ensures) (c .seal .ensures) in
+    let buffer : c .append-crc .last .out ≡ frame start f extra ++ drop (length (frame start f extra)) out =
+    frame-laid start f extra _ out _ _ _ _ (c .header-of .ensures) (c .put .ensures) (c .put-2 .ensures) (c .put-3 .ensures) (c .append-crc .ensures) in
     record {
-      told = done;
+      result = done;
       buffer = buffer;
       front = λ n e. written start f extra _ _ (length out) n (sym done ∙ e) buffer .0;
-      heard = λ n e. written-heard start f extra _ _ (length out) n (sym done ∙ e) buffer;
-      unpacked = λ n e. written-unpacked start f extra _ _ (length out) n (sym done ∙ e) buffer;
+      read-back = λ n e. written-read start f extra _ _ (length out) n (sym done ∙ e) buffer;
+      read-back-reply = λ n e. written-unpacked start f extra _ _ (length out) n (sym done ∙ e) buffer;
     }
