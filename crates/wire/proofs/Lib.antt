@@ -1,4 +1,4 @@
 pub mod Shapes
-pub mod Laying
+pub mod Writing
 pub mod Trips
 pub mod Laws

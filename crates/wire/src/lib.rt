@@ -15,3 +15,6 @@ pub use read::unpack;
 pub use refusal::Refusal;
 pub use write::pack;
 pub use write::write_reply;
+
+#[cfg(test)]
+mod tests;

@@ -1,5 +1,5 @@
 use native.Mathlib.Omega.{arith}
-use Rattle.wire.proofs.Laying.{copied}
+use Rattle.wire.proofs.Writing.{copied}
 use Rattle.wire.proofs.write.put.Needs as need
 
 pub returns : need.returns

@@ -6,7 +6,7 @@ use Rattle.wire.specs.Fields.{fields-of}
 use Rattle.wire.specs.Frames.{frame}
 use Rattle.wire.specs.Packing.{write-result}
 use Rattle.wire.proofs.Laws.{written, written-read, written-unpacked}
-use Rattle.wire.proofs.Laying.{frame-laid}
+use Rattle.wire.proofs.Writing.{frame-written}
 use Rattle.wire.proofs.write.put_frame.Needs as need
 
 pub returns : need.returns
@@ -17,7 +17,7 @@ returns c =
     let out = c .args .out .now in
     let done = sym (c .in-Continue-len .was tt) ∙ c .frame-len .ensures in
     let buffer : c .append-crc .last .out ≡ frame start f extra ++ drop (length (frame start f extra)) out =
-    frame-laid start f extra _ out _ _ _ _ (c .header-of .ensures) (c .put .ensures) (c .put-2 .ensures) (c .put-3 .ensures) (c .append-crc .ensures) in
+    frame-written start f extra _ out _ _ _ _ (c .header-of .ensures) (c .put .ensures) (c .put-2 .ensures) (c .put-3 .ensures) (c .append-crc .ensures) in
     record {
       result = done;
       buffer = buffer;

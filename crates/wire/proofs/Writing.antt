@@ -1,4 +1,4 @@
--- Parts laid into a buffer one behind another. Assumes nothing.
+-- Parts copied into a buffer one behind another. Assumes nothing.
 use mathlib.Core.List.{List, [], _∷_, _++_}
 use mathlib.Core.Path.{_≡_, refl, sym, ap, ap₂, _∙_}
 use Prim.Native.Nat.{ℕ, _+_, _-_, _≤_}
@@ -29,12 +29,12 @@ behind a b out at long =
     ∙ ap (λ n. drop n out) (sym (length-append a b)))
     ∙ sym (append-assoc a b _)
 
--- header, parameter, extra and CRC, laid one behind another, are the frame at the buffer's front
-pub frame-laid : (start : ℕ) (f : Fields) (extra head out o₁ o₂ o₃ o₄ : List ℕ) → head ≡ header start f → o₁ ≡ written-at out 0 head
+-- header, parameter, extra and CRC, copied one behind another, are the frame at the front of the buffer
+pub frame-written : (start : ℕ) (f : Fields) (extra head out o₁ o₂ o₃ o₄ : List ℕ) → head ≡ header start f → o₁ ≡ written-at out 0 head
     → o₂ ≡ written-at o₁ 5 (f .param) → o₃ ≡ written-at o₂ (5 + length (f .param)) extra
     → o₄ ≡ written-at o₃ (5 + length (f .param) + length extra) (big-endian (crc-of (take (5 + length (f .param) + length extra) o₃)))
     → o₄ ≡ frame start f extra ++ drop (length (frame start f extra)) out
-frame-laid start f extra head out o₁ o₂ o₃ o₄ e h₁ h₂ h₃ h₄ =
+frame-written start f extra head out o₁ o₂ o₃ o₄ e h₁ h₂ h₃ h₄ =
     let body = header start f ++ (f .param ++ extra) in
     let end = 5 + length (f .param) + length extra in
     let at₃ : length (header start f ++ f .param) ≡ 5 + length (f .param) = length-append (header start f) (f .param) in
