@@ -1,3 +1,2 @@
-pub mod Requests
 pub mod Lines
 pub mod Laws

@@ -17,7 +17,7 @@ use Rattle.wire.specs.Frames.{command-frame}
 use Rattle.wire.specs.Packing.{write-result}
 use Rattle.wire.specs.Reading.{unpacked}
 use Rattle.hex.specs.Hex.{hex-address, hex-byte, hex-bytes}
-use Rattle.pcframe_lines.specs.Requests.{Asked, asked, neither, packing, unpacking}
+use Rattle.pcframe_requests.specs.Requests.{Asked, asked, neither, packing, unpacking}
 
 -- A refusal as it is answered.
 abbrev pub refusal-line : Refusal → List ℕ

@@ -2,18 +2,19 @@ ghost use mathlib.Core.Path.{_≡_};
 ghost use Rattle.std.specs.Of.String.{string-bytes};
 ghost use Rattle.std.specs.Vec.{made};
 ghost use Rattle.wire.specs.Fields.{reply-fields-of, fields-of};
+ghost use Rattle.pcframe_requests.specs.Requests.{asked, request-as};
 ghost use Rattle.pcframe_lines.specs.Laws.{LineLaws};
 ghost use Rattle.pcframe_lines.specs.Lines.{answered, hex-line, packed-line, refusal-line, report, unpacked-line};
 use crate::acks::AckByte;
 use crate::acks::AckByteDisplay;
-use crate::parse::parse;
-use crate::request::Request;
 use hex::Address;
 use hex::AddressDisplay;
 use hex::Hex;
 use hex::HexBytes;
 use hex::HexBytesDisplay;
 use hex::HexDisplay;
+use pcframe_requests::Request;
+use pcframe_requests::parse;
 use std::alloc::AllocError;
 use std::alloc::Global;
 use wire::Message;
@@ -80,12 +81,20 @@ fn unpacked_as(heap: Global, bytes: &[u8]) -> Result<String, AllocError>
     }
 }
 
+// What a line asks for, with what the answers come to.
+fn request_in(heap: Global, line: &[u8]) -> Result<Request, AllocError>
+    ensures value { λ r. ⌜ made r (λ q. request-as q ≡ asked (now (line .entry))) ⌝ }
+    ensures laws { λ _. ⌜ LineLaws (now (line .entry)) ⌝ }
+{
+    parse(heap, line)
+}
+
 // What is answered to a line.
 pub fn answer(heap: Global, line: &[u8]) -> Result<String, AllocError>
     ensures text { λ r. ⌜ made r (λ s. string-bytes s ≡ answered (now (line .entry))) ⌝ }
     ensures laws { λ _. ⌜ LineLaws (now (line .entry)) ⌝ }
 {
-    match parse(heap, line)? {
+    match request_in(heap, line)? {
         Request::Pack {
             command,
             address,

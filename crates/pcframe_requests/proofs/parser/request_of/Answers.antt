@@ -1,6 +1,6 @@
 use borrow.Author.Needs.{needs}
-use Rattle.pcframe_lines.proofs.Texts.{other-letter}
-use Rattle.pcframe_lines.proofs.parse.request_of.Needs as need
+use Rattle.pcframe_requests.proofs.Texts.{other-letter}
+use Rattle.pcframe_requests.proofs.parser.request_of.Needs as need
 
 pub returns-in-rest-letter : need.returns-in-rest-letter
 returns-in-rest-letter c =

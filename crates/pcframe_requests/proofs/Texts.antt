@@ -8,7 +8,7 @@ use lib.Dec.{eqb}
 use lib.ListN.{length, getD, take}
 use Rattle.std.proofs.shelf.Lists.{getD-at, length-append, nil-from-length, take-at}
 use Rattle.std.proofs.shelf.Tests.{cond-false, cond-true, eq-eqb, ne-eqb}
-use Rattle.pcframe_lines.specs.Requests.{Asked, asked-by, neither, trimmed}
+use Rattle.pcframe_requests.specs.Requests.{Asked, asked-by, neither, trimmed}
 
 -- ---- the end of a line
 

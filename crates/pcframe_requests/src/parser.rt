@@ -2,8 +2,8 @@ ghost use mathlib.Core.Path.{_≡_};
 ghost use lib.ListN.{drop};
 ghost use Rattle.std.specs.Vec.{made};
 ghost use Rattle.hex.specs.Hex.{bytes-spelled};
-ghost use Rattle.pcframe_lines.specs.Laws.{LineLaws};
-ghost use Rattle.pcframe_lines.specs.Requests.{asked, asked-by, head-spelled, packing-of, request-as, trimmed, unpacking-of};
+ghost use Rattle.pcframe_requests.specs.Laws.{RequestLaws};
+ghost use Rattle.pcframe_requests.specs.Requests.{asked, asked-by, head-spelled, packing-of, request-as, trimmed, unpacking-of};
 use crate::request::Request;
 use hex::byte_of;
 use hex::bytes_of;
@@ -56,7 +56,8 @@ fn unpacking(heap: Global, text: &[u8]) -> Result<Request, AllocError>
 
 // A line without the carriage return that may end it.
 fn trim(line: &[u8]) -> &[u8]
-    ensures { λ r. ⌜ now r ≡ trimmed (now (line .entry)) ⌝ }
+    ensures value { λ r. ⌜ now r ≡ trimmed (now (line .entry)) ⌝ }
+    ensures laws { λ _. ⌜ RequestLaws (now (line .entry)) ⌝ }
 {
     let Some((last, text)) = line.split_last() else {
         return line;
@@ -79,9 +80,9 @@ fn request_of(heap: Global, line: &[u8]) -> Result<Request, AllocError>
 }
 
 // What a line asks for.
-pub(crate) fn parse(heap: Global, line: &[u8]) -> Result<Request, AllocError>
+pub fn parse(heap: Global, line: &[u8]) -> Result<Request, AllocError>
     ensures value { λ r. ⌜ made r (λ q. request-as q ≡ asked (now (line .entry))) ⌝ }
-    ensures laws { λ _. ⌜ LineLaws (now (line .entry)) ⌝ }
+    ensures laws { λ _. ⌜ RequestLaws (now (line .entry)) ⌝ }
 {
     request_of(heap, trim(line))
 }

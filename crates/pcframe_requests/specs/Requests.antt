@@ -8,8 +8,8 @@ use Rattle.std.specs.Of.Vec.{vec-items}
 use Rattle.std.specs.declared.option.Option.{Option}
 use Rattle.std.specs.declared.option.Option.the-variants.{Some, None}
 use Rattle.wire.specs.Fields.{Fields}
-use Rattle.pcframe_lines.specs.declared.request.Request.{Request}
-use Rattle.pcframe_lines.specs.declared.request.Request.the-variants.{Pack, Unpack, Unknown}
+use Rattle.pcframe_requests.specs.declared.request.Request.{Request}
+use Rattle.pcframe_requests.specs.declared.request.Request.the-variants.{Pack, Unpack, Unknown}
 use Rattle.hex.specs.Hex.{byte-value, bytes-spelled}
 
 -- What can be asked for.

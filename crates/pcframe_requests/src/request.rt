@@ -1,7 +1,7 @@
 // What a line asks for.
 
 #[derive(Drop)]
-pub(crate) enum Request {
+pub enum Request {
     // the frame of a command
     Pack {
         command: u8,

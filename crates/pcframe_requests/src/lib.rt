@@ -1,0 +1,6 @@
+// What a line of pcframe asks for.
+mod parser;
+mod request;
+
+pub use parser::parse;
+pub use request::Request;
