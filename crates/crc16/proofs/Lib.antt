@@ -1,5 +1,4 @@
 pub mod Below
-pub mod Bytes
 pub mod Register
 pub mod Rows
 pub mod Neighbours

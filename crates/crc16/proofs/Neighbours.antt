@@ -8,7 +8,8 @@ use native.Mathlib.Omega.{arith}
 use lib.Bits.{bitXor, xor-block, xor-lt, xor-mod, xor-self, xor-zero-r, xor-assoc, xor-comm}
 use lib.ListN.{length, getD}
 use Rattle.std.proofs.shelf.Lists.{same-lists, ext-getD}
-use Rattle.crc16.specs.Altered.{Altered, Bytes}
+use Rattle.crc16.specs.Altered.{Altered}
+use Rattle.bytes.specs.Bytes.{Bytes}
 use Rattle.crc16.specs.Crc.{shifts, crc-step, crc-from, crc-of}
 use Rattle.crc16.proofs.Register.{shifts-linear, shifts-below, halves, low-up, upper-zero, xor-pairs, xor-cancel}
 

@@ -5,7 +5,7 @@ use Prim.Native.Nat.{ℕ, zero, suc, _+_, _*_, _/_, _%_, _^_, _<_}
 use native.Mathlib.Nat.{add-zero, div-add-mod'}
 use native.Mathlib.Omega.{arith}
 use lib.Bits.{bitXor, xor-block, xor-self, xor-zero-r}
-use Rattle.crc16.specs.Altered.{Bytes}
+use Rattle.bytes.specs.Bytes.{Bytes}
 use Rattle.crc16.specs.Crc.{shifts, crc-step, crc-from, crc-of}
 use Rattle.crc16.proofs.Register.{low-up}
 use Rattle.crc16.proofs.Neighbours.{from-below}

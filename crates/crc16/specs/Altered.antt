@@ -1,12 +1,8 @@
 -- What noise does to one byte or two. Assumes nothing.
 use mathlib.Core.Path.{_≡_}
 use mathlib.Core.List.{List}
-use Prim.Native.Nat.{ℕ, _+_, _<_}
+use Prim.Native.Nat.{ℕ, _+_}
 use lib.ListN.{length, getD}
-
--- Every element is a byte.
-abbrev pub Bytes : List ℕ → Type 0
-Bytes xs = (k : ℕ) → getD xs k 0 < 256
 
 -- ys is xs with one byte, or two neighbouring bytes, altered: as long as xs, the same everywhere but at one place and
 -- perhaps at the next, and not the same there.

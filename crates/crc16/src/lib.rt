@@ -2,7 +2,8 @@
 ghost use mathlib.Core.List.{List};
 ghost use mathlib.Core.Path.{_≡_};
 ghost use Prim.Native.Nat.{ℕ};
-ghost use Rattle.crc16.specs.Altered.{Altered, Bytes};
+ghost use Rattle.crc16.specs.Altered.{Altered};
+ghost use Rattle.bytes.specs.Bytes.{Bytes};
 ghost use Rattle.crc16.specs.Crc.{crc-of, crc-step, shifts};
 
 mod table;

@@ -8,7 +8,7 @@ use lib.Dec.{leb}
 use lib.ListN.{length}
 use Rattle.std.proofs.shelf.Tests.{and-from, cond-true, le-leb}
 use Rattle.std.specs.declared.result.Result.the-variants.{Ok}
-use Rattle.crc16.proofs.Bytes.{bytes-cons, bytes-none}
+use Rattle.bytes.proofs.Bytes.{bytes-cons, bytes-none}
 use Rattle.wire.specs.Fields.{Fields, Fit, ReplyFields}
 use Rattle.wire.specs.Frames.{command-frame, reply-frame}
 use Rattle.wire.specs.Laws.{FitReply}

@@ -9,7 +9,7 @@ use lib.Dec.{eqb, leb}
 use lib.ListN.{length, getD}
 use Rattle.std.proofs.shelf.Tests.{and-from, cond-false, cond-true, le-leb, ne-eqb}
 use Rattle.std.specs.declared.option.Option.the-variants.{Some, None}
-use Rattle.crc16.specs.Altered.{Bytes}
+use Rattle.bytes.specs.Bytes.{Bytes}
 use Rattle.hex.specs.Hex.{byte-value, hex-address, hex-byte, hex-bytes, hex-digit}
 use Rattle.hex.proofs.Spelling.{NoReturn, byte-back, bytes-back, none-before, none-in-byte, none-in-bytes}
 use Rattle.wire.specs.Fields.{Fields}

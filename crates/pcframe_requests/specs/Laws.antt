@@ -3,7 +3,7 @@ use mathlib.Core.List.{List, _++_}
 use mathlib.Core.Path.{_≡_}
 use Prim.Native.Nat.{ℕ, _<_}
 use lib.Chars.{codes}
-use Rattle.crc16.specs.Altered.{Bytes}
+use Rattle.bytes.specs.Bytes.{Bytes}
 use Rattle.hex.specs.Hex.{hex-address, hex-byte, hex-bytes}
 use Rattle.wire.specs.Fields.{Fields}
 use Rattle.pcframe_requests.specs.Requests.{asked, packing, unpacking}

@@ -11,9 +11,10 @@ use Rattle.std.proofs.shelf.Lists.{append-assoc, getD-at, length-append, nil-fr
 use Rattle.std.proofs.shelf.Tests.{and-parts, cases-bool, cond-both, eqb-false, leb-true}
 use Rattle.std.specs.declared.option.Option.the-variants.{Some, None}
 use Rattle.std.specs.declared.result.Result.the-variants.{Ok, Err}
-use Rattle.crc16.specs.Altered.{Altered, Bytes}
+use Rattle.crc16.specs.Altered.{Altered}
+use Rattle.bytes.specs.Bytes.{Bytes}
 use Rattle.crc16.specs.Crc.{crc-of}
-use Rattle.crc16.proofs.Bytes.{bytes-append, bytes-cons, bytes-drop, bytes-none, bytes-take}
+use Rattle.bytes.proofs.Bytes.{bytes-append, bytes-cons, bytes-drop, bytes-none, bytes-take}
 use Rattle.crc16.proofs.Neighbours.{from-below, neighbours}
 use Rattle.crc16.proofs.Residue.{residue}
 use Rattle.wire.specs.declared.refusal.Refusal.the-variants.{NotAReply, ParamCount, ShortBuffer, WrongCrc}

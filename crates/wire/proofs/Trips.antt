@@ -11,9 +11,9 @@ use lib.ListN.{length, getD, take, drop}
 use lib.Seq.{take-add}
 use Rattle.std.proofs.shelf.Lists.{append-assoc, drop-all, drop-more, getD-append-add, getD-at, length-append, length-drop, length-take-le, take-append-drop, take-at}
 use Rattle.std.proofs.shelf.Tests.{cond-both, cond-false, eq-eqb, eqb-true, ne-eqb}
-use Rattle.crc16.specs.Altered.{Bytes}
+use Rattle.bytes.specs.Bytes.{Bytes}
 use Rattle.crc16.specs.Crc.{crc-of}
-use Rattle.crc16.proofs.Bytes.{bytes-drop, bytes-take}
+use Rattle.bytes.proofs.Bytes.{bytes-drop, bytes-take}
 use Rattle.wire.specs.Fields.{Fields, Fit, CountFits}
 use Rattle.wire.specs.Frames.{param-len, param-count, big-endian, with-crc, header, frame}
 use Rattle.wire.specs.Reading.{number-at, count-in, shaped, fields-in, crc-right}

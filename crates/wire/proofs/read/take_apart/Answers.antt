@@ -1,5 +1,5 @@
 use borrow.Author.Needs.{needs}
-use Rattle.crc16.specs.Altered.{Bytes}
+use Rattle.bytes.specs.Bytes.{Bytes}
 use Rattle.wire.proofs.Laws.{commands, replies}
 use Rattle.wire.proofs.Shapes.{fields-met}
 use Rattle.wire.proofs.read.take_apart.Needs as need
