@@ -46,8 +46,8 @@ landed-more f start vs os ms i h k e =
     let more = land-all f (drop start os) (take i vs) in
     let d : start + i - start ≡ i = omega arith in
     let old : getD ms (start + i) 0 ≡ getD (drop start os) i 0
-          = ap (λ xs. getD xs (start + i) 0) e ∙ getD-append-right front more start (start + i) 0 n (omega arith)
-            ∙ ap (λ j. getD more j 0) d ∙ land-keeps f (drop start os) vs i in
+    = ap (λ xs. getD xs (start + i) 0) e ∙ getD-append-right front more start (start + i) 0 n (omega arith)
+    ∙ ap (λ j. getD more j 0) d ∙ land-keeps f (drop start os) vs i in
     let y = f (getD (drop start os) i 0) (getD vs i 0) in
     ap₂ (λ xs x. set xs (start + i) (f x (getD vs i 0))) e old
     ∙ set-append-right front more start (start + i) y n (omega arith)
@@ -126,7 +126,7 @@ exact f fresh start vs os c =
 
 -- ---- blanking
 
-blank-bytes : (n : ℕ) → Bytes (blank n)
+pub blank-bytes : (n : ℕ) → Bytes (blank n)
 blank-bytes zero = bytes-none
 blank-bytes (suc n) = bytes-cons 255 (blank n) (omega arith) (blank-bytes n)
 
@@ -139,3 +139,6 @@ blanked-enough start n m os e =
 
 pub blanked-again : (start n : ℕ) (ks os : List ℕ) → Bytes os → blanked start n (torn-tries replacing start (blank n) ks os) ≡ blanked start n os
 blanked-again start n ks os b = retried replacing (λ o v h k. k) (λ o v h k. refl) start (blank n) ks os (blank-bytes n) b
+
+pub blanked-bytes : (start i n : ℕ) (os : List ℕ) → Bytes os → Bytes (landed replacing start (take i (blank n)) os)
+blanked-bytes start i n os b = landed-bytes replacing (λ o v h k. k) start (take i (blank n)) os (bytes-take i (blank n) (blank-bytes n)) b

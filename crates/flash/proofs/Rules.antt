@@ -16,15 +16,15 @@ clearing-fresh v h = and-comm 255 v ∙ and-mask v 8 ∙ omega arith
 and-again : (o v : ℕ) → bitAnd (bitAnd o v) v ≡ bitAnd o v
 and-again =
     bin-ind (λ o. (v : ℕ) → bitAnd (bitAnd o v) v ≡ bitAnd o v) (λ v. refl) (λ o ih v.
-      let x = bitAnd o v in
-      let m = min (o % 2) (v % 2) in
-      let e : x ≡ bitAnd (o / 2) (v / 2) * 2 + m = and-step o v in
-      let l : m ≤ v % 2 = min-le-right (o % 2) (v % 2) in
-      let half : x / 2 ≡ bitAnd (o / 2) (v / 2) = omega arith in
-      let low : x % 2 ≡ m = omega arith in
-      and-step x v
-      ∙ ap₂ (λ a b. a * 2 + b) (ap (λ a. bitAnd a (v / 2)) half ∙ ih (v / 2)) (ap (λ a. min a (v % 2)) low ∙ min-eq-left l)
-      ∙ sym e)
+    let x = bitAnd o v in
+    let m = min (o % 2) (v % 2) in
+    let e : x ≡ bitAnd (o / 2) (v / 2) * 2 + m = and-step o v in
+    let l : m ≤ v % 2 = min-le-right (o % 2) (v % 2) in
+    let half : x / 2 ≡ bitAnd (o / 2) (v / 2) = omega arith in
+    let low : x % 2 ≡ m = omega arith in
+    and-step x v
+    ∙ ap₂ (λ a b. a * 2 + b) (ap (λ a. bitAnd a (v / 2)) half ∙ ih (v / 2)) (ap (λ a. min a (v % 2)) low ∙ min-eq-left l)
+    ∙ sym e)
 
 pub clearing-again : Again clearing
 clearing-again o v h k = and-again o v

@@ -1,11 +1,12 @@
-use mathlib.Core.Path.{_≡_, sym, ap, _∙_}
+use mathlib.Core.Path.{_≡_, sym, ap, subst, _∙_}
 use Prim.Native.Nat.{ℕ, min, _+_, _-_}
 use native.Mathlib.Omega.{arith}
 use lib.ListN.{length, set, take}
 use Rattle.std.proofs.shelf.Lists.{getD-replicate, length-replicate}
+use Rattle.bytes.specs.Bytes.{Bytes}
 use Rattle.flash.specs.Rules.{replacing}
 use Rattle.flash.specs.Blocks.{blank, blanked, landed}
-use Rattle.flash.proofs.Blocks.{blanked-again, blanked-enough, landed-more, landed-none}
+use Rattle.flash.proofs.Blocks.{blanked-again, blanked-bytes, blanked-enough, landed-more, landed-none}
 use Rattle.flash.proofs.blank_cells.Needs as need
 
 pub loop-i-holds : need.loop-i-holds
@@ -15,7 +16,7 @@ pub loop-i-again : need.loop-i-again
 loop-i-again c =
     ap (set (c .loop-i .memory) (c .args .start + c .loop-i .i)) (sym (getD-replicate (c .args .count) (c .loop-i .i) 255 0 (omega arith)))
     ∙ landed-more replacing (c .args .start) (blank (c .args .count)) (c .args .memory .now) (c .loop-i .memory) (c .loop-i .i)
-      (omega arith) (omega (arith, length-replicate {A = ℕ} (c .args .count) 255)) (c .loop-i .inv)
+    (omega arith) (omega (arith, length-replicate {A = ℕ} (c .args .count) 255)) (c .loop-i .inv)
 
 whole : (c : need.After-loop-i) (n : ℕ) → c .args .count ≡ min n (length (c .args .memory .now) - c .args .start) →
     c .loop-i .memory ≡ blanked (c .args .start) n (c .args .memory .now)
@@ -29,4 +30,5 @@ pub returns : need.returns
 returns c = record {
   blanks = whole c;
   retry = λ n m ks os b e. whole c n m ∙ ap (blanked (c .args .start) n) e ∙ blanked-again (c .args .start) n ks os b;
+  bytes = λ b. subst Bytes (sym (c .loop-i .inv)) (blanked-bytes (c .args .start) (c .loop-i .i) (c .args .count) (c .args .memory .now) b);
 }

@@ -1,9 +1,9 @@
 use borrow.Author.Needs.{needs}
-use mathlib.Core.Path.{_≡_, ap, _∙_}
+use mathlib.Core.Path.{_≡_, sym, ap, subst, _∙_}
 use native.Mathlib.Omega.{arith}
 use Rattle.bytes.specs.Bytes.{Bytes}
 use Rattle.flash.specs.Blocks.{landed}
-use Rattle.flash.proofs.Blocks.{exact, landed-enough, landed-more, landed-none, retried}
+use Rattle.flash.proofs.Blocks.{exact, landed-bytes, landed-enough, landed-more, landed-none, retried}
 use Rattle.flash.proofs.land_cells.Needs as need
 
 pub loop-i-holds : need.loop-i-holds
@@ -12,8 +12,8 @@ loop-i-holds g c = landed-none (g .L·Landing .rule) (c .args .start) (c .args .
 pub loop-i-again : need.loop-i-again
 loop-i-again g c =
     let more =
-        landed-more (g .L·Landing .rule) (c .args .start) (c .args .values .now) (c .args .memory .now) (c .loop-i .memory)
-        (c .loop-i .i) (omega arith) (omega arith) (c .loop-i .inv) in
+    landed-more (g .L·Landing .rule) (c .args .start) (c .args .values .now) (c .args .memory .now) (c .loop-i .memory)
+    (c .loop-i .i) (omega arith) (omega arith) (c .loop-i .inv) in
     search (needs, more)
 
 pub returns : need.returns
@@ -28,4 +28,5 @@ returns g c =
       lands = whole;
       retry = λ ks ms b e. whole ∙ ap (landed f start vs) e ∙ retried f (g .L·Landing·met .onbytes) (g .L·Landing·met .again) start vs ks ms bytes b;
       exact = λ ms e. whole ∙ ap (landed f start vs) e ∙ exact f (g .L·Landing·met .fresh) start vs ms bytes;
+      bytes = λ b. subst Bytes (sym whole) (landed-bytes f (g .L·Landing·met .onbytes) start vs os bytes b);
     }

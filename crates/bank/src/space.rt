@@ -1,0 +1,6 @@
+// The two memories of a target.
+#[derive(Clone, Copy)]
+pub enum Space {
+    Flash,
+    Eeprom,
+}
