@@ -1,0 +1,17 @@
+-- Where a channel of a pair is. Assumes nothing.
+use mathlib.Core.Bool.{cond}
+use mathlib.Core.List.{List, _++_}
+use Prim.Native.Nat.{ℕ, _-_}
+use lib.Dec.{leb, ltb}
+use lib.ListN.{take}
+use Rattle.bank.specs.Channels.{Channel}
+use Rattle.pair.specs.declared.place.Place.{Place}
+use Rattle.pair.specs.declared.place.Place.the-variants.{First, Second, Outside}
+
+-- The channels of a pair: the first's, then the second's, cut after the eighth.
+abbrev pub paired : List Channel → List Channel → List Channel
+paired xs ys = take 8 (xs ++ ys)
+
+-- Where the channel with this number is, when the first bank has so many.
+abbrev pub placed : ℕ → ℕ → Place
+placed firsts channel = cond (leb 8 channel) Outside (cond (ltb channel firsts) (First channel) (Second (channel - firsts)))

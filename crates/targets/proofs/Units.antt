@@ -1,0 +1,27 @@
+-- As far as the units go. Assumes nothing.
+use mathlib.Core.Path.{_≡_, sym, ap, _∙_}
+use mathlib.Core.List.{List}
+use mathlib.Core.Logic.{⊎-elim}
+use Prim.Native.Nat.{ℕ, min, _≤_, _<_}
+use native.Mathlib.Nat.{min-eq-left, min-eq-right}
+use native.Mathlib.Omega.{arith}
+use lib.Dec.{eqb, leb}
+use lib.ListN.{length, take}
+use Rattle.std.proofs.shelf.Lists.{take-all}
+use Rattle.std.proofs.shelf.Tests.{cases-lt, eq-eqb, ne-eqb, le-leb, lt-leb}
+
+-- there are units for all exactly if the supply is not less
+pub all-units : (count supply : ℕ) → eqb (min count supply) count ≡ leb count supply
+all-units count supply =
+    ⊎-elim
+    (λ less. ne-eqb (min count supply) count (λ e. omega (arith, less, e, min-eq-right {n = supply} {m = count} (omega arith))) ∙ sym (lt-leb count supply less))
+    (λ most. eq-eqb (min count supply) count (min-eq-left most) ∙ sym (le-leb count supply most))
+    (cases-lt supply count)
+
+-- the front that there are units for is the one as long as the supply
+pub front-units : (count supply : ℕ) (vs : List ℕ) → length vs ≡ count → take (min count supply) vs ≡ take supply vs
+front-units count supply vs e =
+    ⊎-elim
+    (λ less. ap (λ n. take n vs) (min-eq-right {n = supply} {m = count} (omega arith)))
+    (λ most. take-all (min count supply) vs (omega (arith, min-eq-left most)) ∙ sym (take-all supply vs (omega arith)))
+    (cases-lt supply count)

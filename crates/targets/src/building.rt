@@ -1,0 +1,40 @@
+// New targets.
+ghost use lib.ListN.{length, take};
+ghost use mathlib.Core.Path.{_≡_};
+ghost use Prim.Native.Nat.{_≤_};
+ghost use Rattle.bank.specs.Facts.{sheet};
+ghost use Rattle.bytes.specs.Bytes.{Bytes};
+ghost use Rattle.flash.specs.Blocks.{blank};
+ghost use Rattle.targets.specs.Targets.{channel-of, new-channel};
+use crate::power::Power;
+use crate::target::Target;
+use bank::EEPROM_MOST;
+use bank::FLASH_MOST;
+use bank::Facts;
+use flash::Landing;
+use std::marker::PhantomData;
+
+// An array whose front, `size` bytes of it, is a blank memory.
+fn blank_array<const N: usize>(size: usize) -> [u8; N]
+    requires { ⌜ size ≤ N ⌝ }
+    ensures front { λ r. ⌜ take size r ≡ blank size ⌝ }
+    ensures long { λ r. ⌜ length (take size r) ≡ size ⌝ }
+    ensures bytes { λ r. ⌜ Bytes (take size r) ⌝ }
+{
+    [0xFF; N]
+}
+
+impl<L: Landing> Target<L> {
+    // A new target with these facts: every byte FF, no supply, asleep.
+    pub fn new(facts: Facts) -> Target<L>
+        ensures { λ r. ⌜ channel-of (L·Landing .rule) (r .facts) (r .flash) (r .eeprom) (r .power) ≡ new-channel (sheet facts) (L·Landing .rule) ⌝ }
+    {
+        Target {
+            facts,
+            flash: blank_array::<FLASH_MOST>(facts.flash_size),
+            eeprom: blank_array::<EEPROM_MOST>(facts.eeprom_size),
+            power: Power::new(0),
+            landing: PhantomData,
+        }
+    }
+}
