@@ -5,7 +5,6 @@ ghost use mathlib.Core.Path.{_≡_};
 ghost use Rattle.attempts.specs.Attempts.{Retry, roused};
 ghost use Rattle.bank.specs.Channels.{alter, ask};
 ghost use Rattle.bank.specs.Effects.{program-answered, reached, read-into, written};
-
 use bank::Bank;
 use bank::Space;
 
@@ -18,7 +17,13 @@ fn rouse<B: Bank>(bank: &mut B, channel: usize, units: u32)
 }
 
 // Writes a block. The law is that of attempts at this block.
-fn write_block<B: Bank>(bank: &mut B, channel: usize, space: Space, start: usize, values: &[u8]) -> bool
+fn write_block<B: Bank>(
+    bank: &mut B,
+    channel: usize,
+    space: Space,
+    start: usize,
+    values: &[u8],
+) -> bool
     ensures answer { λ r. ⌜ r ≡ ask false (program-answered space start (length (now (values .entry)))) (B·Bank .channels (now (bank .entry))) channel ⌝ }
     ensures after { λ _. ⌜ B·Bank .channels (now (bank .exit)) ≡ alter (written space start (now (values .entry))) (B·Bank .channels (now (bank .entry))) channel ⌝ }
     ensures retry { λ _. ⌜ Retry space start (now (values .entry)) ⌝ }
@@ -28,7 +33,14 @@ fn write_block<B: Bank>(bank: &mut B, channel: usize, space: Space, start: usize
 
 // One attempt at a block: gives a channel a new supply, wakes it and writes. An answer says that the block is there, whatever
 // earlier attempts at the same block have left.
-pub fn attempt<B: Bank>(bank: &mut B, channel: usize, space: Space, start: usize, values: &[u8], units: u32) -> bool
+pub fn attempt<B: Bank>(
+    bank: &mut B,
+    channel: usize,
+    space: Space,
+    start: usize,
+    values: &[u8],
+    units: u32,
+) -> bool
     ensures answer { λ r. ⌜ r ≡ ask false (program-answered space start (length (now (values .entry)))) (alter (roused units) (B·Bank .channels (now (bank .entry))) channel) channel ⌝ }
     ensures after { λ _. ⌜ B·Bank .channels (now (bank .exit)) ≡ alter (written space start (now (values .entry))) (alter (roused units) (B·Bank .channels (now (bank .entry))) channel) channel ⌝ }
     ensures retry { λ _. ⌜ Retry space start (now (values .entry)) ⌝ }
@@ -38,7 +50,13 @@ pub fn attempt<B: Bank>(bank: &mut B, channel: usize, space: Space, start: usize
 }
 
 // Gives a channel a supply of one unit, wakes it and reads as many bytes of its memory as the buffer has.
-pub fn look<B: Bank>(bank: &mut B, channel: usize, space: Space, start: usize, buffer: &mut [u8]) -> bool
+pub fn look<B: Bank>(
+    bank: &mut B,
+    channel: usize,
+    space: Space,
+    start: usize,
+    buffer: &mut [u8],
+) -> bool
     ensures answer { λ r. ⌜ r ≡ ask false (reached space start (length (now (buffer .entry)))) (alter (roused 1) (B·Bank .channels (now (bank .entry))) channel) channel ⌝ }
     ensures after { λ _. ⌜ B·Bank .channels (now (bank .exit)) ≡ alter (roused 1) (B·Bank .channels (now (bank .entry))) channel ⌝ }
     ensures bytes { λ _. ⌜ now (buffer .exit) ≡ ask (now (buffer .entry)) (read-into space start (now (buffer .entry))) (alter (roused 1) (B·Bank .channels (now (bank .entry))) channel) channel ⌝ }

@@ -1,11 +1,11 @@
 -- What each call does to the channel that it names, and what it answers. Assumes nothing.
 use mathlib.Core.Bool.{Bool, true, false, cond, _&&_}
 use mathlib.Core.List.{List}
-use Prim.Native.Nat.{ℕ, min, _+_, _-_}
+use Prim.Native.Nat.{ℕ, _+_, _-_}
 use lib.Dec.{leb, ltb}
 use lib.ListN.{length, take, drop}
 use Rattle.flash.specs.Rules.{replacing}
-use Rattle.flash.specs.Blocks.{blanked, landed}
+use Rattle.flash.specs.Blocks.{blank, landed}
 use Rattle.bank.specs.declared.space.Space.{Space}
 use Rattle.bank.specs.declared.space.Space.the-variants.{Flash, Eeprom}
 use Rattle.bank.specs.Channels.{Channel}
@@ -54,16 +54,16 @@ reached space start count c = c .awake && inside (length (memory space c)) start
 
 -- ---- read
 
--- The caller's buffer after a read as long as it: the bytes of the range, or what it held where no answer comes.
+-- The caller's buffer after a read that fills it: the bytes of the range, or what it held where no answer comes.
 abbrev pub read-into : Space → ℕ → List ℕ → Channel → List ℕ
 read-into space start buffer c =
     cond (reached space start (length buffer) c) (take (length buffer) (drop start (memory space c))) buffer
 
 -- ---- write and erase
 
--- After count units were used, or all where there were less: asleep where none is left.
+-- After count units were used, or all where there were fewer: asleep where none is left, also after the last byte.
 abbrev pub spent : ℕ → Channel → Channel
-spent count c = with-power (c .supply - count) (ltb 0 (c .supply - count)) c
+spent count c = with-power (c .supply - count) (c .awake && ltb 0 (c .supply - count)) c
 
 -- An answer to a write or an erase of count bytes comes if the target has the range and the units do not end first.
 abbrev pub program-answered : Space → ℕ → ℕ → Channel → Bool
@@ -74,18 +74,14 @@ abbrev pub rule-of : Space → Channel → ℕ → ℕ → ℕ
 rule-of Flash c = c .rule
 rule-of Eeprom c = replacing
 
--- Of the values land as many as there are units, from the lowest address upward, each for one unit.
-abbrev pub programmed : Space → ℕ → List ℕ → Channel → Channel
-programmed space start vs c = spent (length vs) (with-memory space (landed (rule-of space c) start (take (c .supply) vs) (memory space c)) c)
+-- With a block programmed by the rule f from the lowest address upward, as much of it as there are units for.
+abbrev pub programmed : (ℕ → ℕ → ℕ) → Space → ℕ → List ℕ → Channel → Channel
+programmed f space start vs c = with-memory space (landed f start (take (c .supply) vs) (memory space c)) c
 
--- After a write, which programs where the target has the range.
+-- After a write: where the target has the range, the values are programmed, each for one unit.
 abbrev pub written : Space → ℕ → List ℕ → Channel → Channel
-written space start vs c = cond (reached space start (length vs) c) (programmed space start vs c) c
+written space start vs c = cond (reached space start (length vs) c) (spent (length vs) (programmed (rule-of space c) space start vs c)) c
 
--- As many bytes of flash become FF as there are units, from the lowest address upward, each for one unit.
-abbrev pub cleared : ℕ → ℕ → Channel → Channel
-cleared start count c = spent count (with-memory Flash (blanked start (min count (c .supply)) (c .flash)) c)
-
--- After an erase, which clears where the target has the range.
+-- After an erase: where the target has the range of flash, it is set to FF, each byte for one unit.
 abbrev pub erased : ℕ → ℕ → Channel → Channel
-erased start count c = cond (reached Flash start count c) (cleared start count c) c
+erased start count c = cond (reached Flash start count c) (spent count (programmed replacing Flash start (blank count) c)) c

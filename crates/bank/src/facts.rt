@@ -5,7 +5,7 @@ ghost use Rattle.bank.specs.Sizes.{sizes-fit};
 ghost use Rattle.bytes.specs.Bytes.{Bytes};
 use crate::mode::Mode;
 
-// What is fixed of a target: its mode, the sizes of its flash, of a page of it and of its EEPROM, and what it answers when asked
+// What is fixed about a target: its mode, the sizes of its flash, of a page of it and of its EEPROM, and what it answers when asked
 // who it is.
 #[derive(Clone, Copy)]
 pub struct Facts {

@@ -1,10 +1,10 @@
 // The four targets that are built in, one of each mode, as they are when new.
 ghost use mathlib.Core.Path.{_≡_};
-ghost use Rattle.bank.specs.Facts.{sheet};
+ghost use Rattle.bank.specs.Facts.{facts-of};
 ghost use Rattle.bank.specs.declared.mode.Mode.the-variants.{AtmBLB, AtmSK, SiC2, SiLBLB};
 ghost use Rattle.built.specs.Built.{built, built-facts};
 ghost use Rattle.flash.specs.Rules.{clearing, replacing};
-ghost use Rattle.targets.specs.Targets.{channel-of, new-channel};
+ghost use Rattle.targets.specs.Targets.{channel, new-channel};
 use bank::Facts;
 use bank::Mode;
 use flash::Clearing;
@@ -16,7 +16,7 @@ use targets::Target;
 
 // The facts of the built target of a mode.
 fn built_facts(mode: Mode) -> Facts
-    ensures { λ r. ⌜ sheet r ≡ built-facts mode ⌝ }
+    ensures { λ r. ⌜ facts-of r ≡ built-facts mode ⌝ }
 {
     let flash_size = 8_192;
     match mode {
@@ -53,35 +53,35 @@ fn built_facts(mode: Mode) -> Facts
 
 // A new target with the facts of the built one of a mode.
 fn new_built<L: Landing>(mode: Mode) -> Target<L>
-    ensures { λ r. ⌜ channel-of (L·Landing .rule) (r .facts) (r .flash) (r .eeprom) (r .power) ≡ new-channel (built-facts mode) (L·Landing .rule) ⌝ }
+    ensures { λ r. ⌜ channel (L·Landing .rule) r ≡ new-channel (built-facts mode) (L·Landing .rule) ⌝ }
 {
     Target::<L>::new(built_facts(mode))
 }
 
 // A new target of mode 0, SiC2.
 pub fn sic2() -> Target<Clearing>
-    ensures { λ r. ⌜ channel-of clearing (r .facts) (r .flash) (r .eeprom) (r .power) ≡ built SiC2 ⌝ }
+    ensures { λ r. ⌜ channel clearing r ≡ built SiC2 ⌝ }
 {
     new_built::<Clearing>(Mode::SiC2)
 }
 
 // A new target of mode 1, SiLBLB.
 pub fn silblb() -> Target<Clearing>
-    ensures { λ r. ⌜ channel-of clearing (r .facts) (r .flash) (r .eeprom) (r .power) ≡ built SiLBLB ⌝ }
+    ensures { λ r. ⌜ channel clearing r ≡ built SiLBLB ⌝ }
 {
     new_built::<Clearing>(Mode::SiLBLB)
 }
 
 // A new target of mode 2, AtmBLB.
 pub fn atmblb() -> Target<Replacing>
-    ensures { λ r. ⌜ channel-of replacing (r .facts) (r .flash) (r .eeprom) (r .power) ≡ built AtmBLB ⌝ }
+    ensures { λ r. ⌜ channel replacing r ≡ built AtmBLB ⌝ }
 {
     new_built::<Replacing>(Mode::AtmBLB)
 }
 
 // A new target of mode 3, AtmSK.
 pub fn atmsk() -> Target<Replacing>
-    ensures { λ r. ⌜ channel-of replacing (r .facts) (r .flash) (r .eeprom) (r .power) ≡ built AtmSK ⌝ }
+    ensures { λ r. ⌜ channel replacing r ≡ built AtmSK ⌝ }
 {
     new_built::<Replacing>(Mode::AtmSK)
 }

@@ -9,12 +9,13 @@ use lib.ListN.{length, getD, set, take, drop, replicate}
 use Rattle.std.proofs.shelf.Lists.{getD-append-right, length-drop, length-replicate, length-take-le, set-append-right, take-replicate}
 use Rattle.bytes.specs.Bytes.{Bytes}
 use Rattle.bytes.proofs.Bytes.{bytes-none, bytes-cons, bytes-append, bytes-take, bytes-drop}
-use Rattle.flash.specs.Rules.{replacing, OnBytes, Fresh, Again}
+use Rattle.flash.specs.Rules.{replacing, OnBytes, OnBlank, Idempotent}
+use Rattle.flash.proofs.Rules.{replacing-idempotent, replacing-on-bytes}
 use Rattle.flash.specs.Blocks.{blank, blanked, land-all, landed, torn-tries}
 
 -- ---- one byte more
 
-pub land-none : (f : ℕ → ℕ → ℕ) (os : List ℕ) → land-all f os [] ≡ os
+land-none : (f : ℕ → ℕ → ℕ) (os : List ℕ) → land-all f os [] ≡ os
 land-none f [] = refl
 land-none f (o ∷ os) = refl
 
@@ -77,7 +78,7 @@ over f g zero vs ws os = refl
 over f g (suc n) vs ws [] = refl
 over f g (suc n) vs ws (o ∷ os) = ap (λ xs. o ∷ xs) (over f g n vs ws os)
 
-land-again : (f : ℕ → ℕ → ℕ) → Again f → (os vs : List ℕ) (k : ℕ) → Bytes os → Bytes vs →
+land-again : (f : ℕ → ℕ → ℕ) → Idempotent f → (os vs : List ℕ) (k : ℕ) → Bytes os → Bytes vs →
     land-all f (land-all f os (take k vs)) vs ≡ land-all f os vs
 land-again f again [] vs k b c = refl
 land-again f again (o ∷ os) [] zero b c = refl
@@ -103,7 +104,7 @@ tries-bytes f on start vs (k ∷ ks) os c b =
     landed-bytes f on start (take k vs) (torn-tries f start vs ks os) (bytes-take k vs c) (tries-bytes f on start vs ks os c b)
 
 -- torn at any length, any number of times, then landed whole is landed whole once
-pub retried : (f : ℕ → ℕ → ℕ) → OnBytes f → Again f → (start : ℕ) (vs ks os : List ℕ) → Bytes vs → Bytes os →
+pub retried : (f : ℕ → ℕ → ℕ) → OnBytes f → Idempotent f → (start : ℕ) (vs ks os : List ℕ) → Bytes vs → Bytes os →
     landed f start vs (torn-tries f start vs ks os) ≡ landed f start vs os
 retried f on again start vs [] os c b = refl
 retried f on again start vs (k ∷ ks) os c b =
@@ -112,14 +113,14 @@ retried f on again start vs (k ∷ ks) os c b =
     ∙ ap (λ xs. take start before ++ xs) (land-again f again (drop start before) vs k (bytes-drop start before (tries-bytes f on start vs ks os c b)) c)
     ∙ retried f on again start vs ks os c b
 
-land-blank : (f : ℕ → ℕ → ℕ) → Fresh f → (os vs : List ℕ) → Bytes vs →
+land-blank : (f : ℕ → ℕ → ℕ) → OnBlank f → (os vs : List ℕ) → Bytes vs →
     land-all f (land-all replacing os (replicate (length vs) 255)) vs ≡ land-all replacing os vs
 land-blank f fresh [] vs c = refl
 land-blank f fresh (o ∷ os) [] c = refl
 land-blank f fresh (o ∷ os) (v ∷ vs) c = ap₂ (λ x xs. x ∷ xs) (fresh v (c 0)) (land-blank f fresh os vs (λ i. c (suc i)))
 
 -- a block landed where all is blank leaves its values, whatever the rule
-pub exact : (f : ℕ → ℕ → ℕ) → Fresh f → (start : ℕ) (vs os : List ℕ) → Bytes vs →
+pub exact : (f : ℕ → ℕ → ℕ) → OnBlank f → (start : ℕ) (vs os : List ℕ) → Bytes vs →
     landed f start vs (blanked start (length vs) os) ≡ landed replacing start vs os
 exact f fresh start vs os c =
     over f replacing start vs (replicate (length vs) 255) os ∙ ap (λ xs. take start os ++ xs) (land-blank f fresh (drop start os) vs c)
@@ -138,7 +139,4 @@ blanked-enough start n m os e =
     ∙ landed-enough replacing start (blank n) os m (λ k. omega (arith, e, k, length-replicate {A = ℕ} n 255))
 
 pub blanked-again : (start n : ℕ) (ks os : List ℕ) → Bytes os → blanked start n (torn-tries replacing start (blank n) ks os) ≡ blanked start n os
-blanked-again start n ks os b = retried replacing (λ o v h k. k) (λ o v h k. refl) start (blank n) ks os (blank-bytes n) b
-
-pub blanked-bytes : (start i n : ℕ) (os : List ℕ) → Bytes os → Bytes (landed replacing start (take i (blank n)) os)
-blanked-bytes start i n os b = landed-bytes replacing (λ o v h k. k) start (take i (blank n)) os (bytes-take i (blank n) (blank-bytes n)) b
+blanked-again start n ks os b = retried replacing replacing-on-bytes replacing-idempotent start (blank n) ks os (blank-bytes n) b

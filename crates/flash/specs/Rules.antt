@@ -16,9 +16,9 @@ abbrev pub OnBytes : (ℕ → ℕ → ℕ) → Type 0
 OnBytes f = (o v : ℕ) → o < 256 → v < 256 → f o v < 256
 
 -- The first law: a value landing on FF gives the value.
-abbrev pub Fresh : (ℕ → ℕ → ℕ) → Type 0
-Fresh f = (v : ℕ) → v < 256 → f 255 v ≡ v
+abbrev pub OnBlank : (ℕ → ℕ → ℕ) → Type 0
+OnBlank f = (v : ℕ) → v < 256 → f 255 v ≡ v
 
 -- The second law: the same value landing twice gives what it gave the first time.
-abbrev pub Again : (ℕ → ℕ → ℕ) → Type 0
-Again f = (o v : ℕ) → o < 256 → v < 256 → f (f o v) v ≡ f o v
+abbrev pub Idempotent : (ℕ → ℕ → ℕ) → Type 0
+Idempotent f = (o v : ℕ) → o < 256 → v < 256 → f (f o v) v ≡ f o v

@@ -2,7 +2,6 @@
 ghost use lib.ListN.{length};
 ghost use mathlib.Core.Path.{_≡_};
 ghost use Prim.Native.Nat.{ℕ, min, _-_, _≤_};
-ghost use Rattle.bytes.specs.Bytes.{Bytes};
 ghost use Rattle.flash.specs.Blocks.{Exact, Retried, blank, blanked, landed};
 ghost use Rattle.flash.specs.Rules.{replacing};
 
@@ -20,7 +19,6 @@ fn land_cells<L: Landing>(memory: &mut [u8], start: usize, values: &[u8], count:
     ensures lands { λ _. ⌜ now (memory .exit) ≡ landed (L·Landing .rule) start (now (values .entry)) (now (memory .entry)) ⌝ }
     ensures retry { λ _. ⌜ Retried (L·Landing .rule) start (now (values .entry)) (now (memory .entry)) (now (memory .exit)) ⌝ }
     ensures exact { λ _. ⌜ Exact start (now (values .entry)) (now (memory .entry)) (now (memory .exit)) ⌝ }
-    ensures bytes { λ _. ⌜ (Bytes (now (memory .entry)) → Bytes (now (memory .exit))) ⌝ }
 {
     for i in 0..count {
         memory[start + i] = L::land(memory[start + i], values[i]);
@@ -33,18 +31,16 @@ pub fn land_block<L: Landing>(memory: &mut [u8], start: usize, values: &[u8])
     ensures lands { λ _. ⌜ now (memory .exit) ≡ landed (L·Landing .rule) start (now (values .entry)) (now (memory .entry)) ⌝ }
     ensures retry { λ _. ⌜ Retried (L·Landing .rule) start (now (values .entry)) (now (memory .entry)) (now (memory .exit)) ⌝ }
     ensures exact { λ _. ⌜ Exact start (now (values .entry)) (now (memory .entry)) (now (memory .exit)) ⌝ }
-    ensures bytes { λ _. ⌜ (Bytes (now (memory .entry)) → Bytes (now (memory .exit))) ⌝ }
 {
     let room = memory.len().saturating_sub(start);
     land_cells::<L>(memory, start, values, values.len().min(room));
 }
 
-// Blanks `count` bytes: all that are there of any greater number.
+// Blanks `count` bytes. Asked to blank n, of which the memory has only `count`, it blanks all that n asks for.
 fn blank_cells(memory: &mut [u8], start: usize, count: usize)
     requires { ⌜ count ≤ length (now memory) - start ⌝ }
     ensures blanks { λ _. ⌜ ((n : ℕ) → count ≡ min n (length (now (memory .entry)) - start) → now (memory .exit) ≡ blanked start n (now (memory .entry))) ⌝ }
     ensures retry { λ _. ⌜ ((n : ℕ) → count ≡ min n (length (now (memory .entry)) - start) → Retried replacing start (blank n) (now (memory .entry)) (now (memory .exit))) ⌝ }
-    ensures bytes { λ _. ⌜ (Bytes (now (memory .entry)) → Bytes (now (memory .exit))) ⌝ }
 {
     for i in 0..count {
         memory[start + i] = 0xFF;
@@ -56,7 +52,6 @@ fn blank_cells(memory: &mut [u8], start: usize, count: usize)
 pub fn blank_block(memory: &mut [u8], start: usize, count: usize)
     ensures blanks { λ _. ⌜ now (memory .exit) ≡ blanked start count (now (memory .entry)) ⌝ }
     ensures retry { λ _. ⌜ Retried replacing start (blank count) (now (memory .entry)) (now (memory .exit)) ⌝ }
-    ensures bytes { λ _. ⌜ (Bytes (now (memory .entry)) → Bytes (now (memory .exit))) ⌝ }
 {
     let room = memory.len().saturating_sub(start);
     blank_cells(memory, start, count.min(room));

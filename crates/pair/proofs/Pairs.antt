@@ -1,6 +1,6 @@
 -- A channel of a pair is the channel of one of its banks. Assumes nothing.
 use mathlib.Core.Path.{_≡_, refl, sym, ap, _∙_}
-use mathlib.Core.Bool.{true, false, cond}
+use mathlib.Core.Bool.{cond}
 use mathlib.Core.List.{List, [], _∷_, _++_}
 use Prim.Native.Nat.{ℕ, zero, suc, min, _+_, _-_, _<_, _≤_}
 use native.Mathlib.Nat.{suc-sub-suc, sub-zero}
@@ -9,7 +9,7 @@ use lib.Dec.{leb, ltb}
 use lib.ListN.{length, take}
 use Rattle.std.proofs.shelf.Lists.{length-append, length-take}
 use Rattle.std.proofs.shelf.Tests.{cond-both, leb-true, leb-false, ltb-true, ltb-false}
-use Rattle.bank.specs.Channels.{AllSound, Channel, Sound, SoundBank, alter, ask}
+use Rattle.bank.specs.Channels.{AllSound, Channel, SoundBank, alter, ask}
 use Rattle.pair.specs.Places.{paired, placed}
 use Rattle.pair.specs.declared.place.Place.{Place}
 use Rattle.pair.specs.declared.place.Place.the-variants.{First, Second, Outside}
@@ -119,8 +119,8 @@ paired-long xs ys = length-take 8 (xs ++ ys) ∙ ap (min 8) (length-append xs ys
 
 pub paired-sound : (xs ys : List Channel) → SoundBank xs → SoundBank ys → SoundBank (paired xs ys)
 paired-sound xs ys a b = record {
-  some = omega (arith, a .some, paired-long xs ys);
-  most = omega (arith, paired-long xs ys);
+  not-empty = omega (arith, a .not-empty, paired-long xs ys);
+  at-most = omega (arith, paired-long xs ys);
   all = sound-take 8 (xs ++ ys) (sound-append xs ys (a .all) (b .all));
 }
 

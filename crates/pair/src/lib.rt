@@ -7,10 +7,9 @@ mod place;
 
 use bank::Bank;
 use bank::Facts;
+use bank::MAX_CHANNELS;
 use bank::Space;
 use place::Place;
-
-const CHANNELS_MOST: usize = 8;
 
 // Any two banks.
 #[derive(Drop)]
@@ -25,7 +24,7 @@ impl<A: Bank, B: Bank> Pair<A, B> {
         ensures { λ r. ⌜ r ≡ placed (length (A·Bank .channels (now (self .entry) .first))) channel ⌝ }
     {
         let firsts = self.first.count();
-        if channel >= CHANNELS_MOST {
+        if channel >= MAX_CHANNELS {
             Place::Outside
         } else if channel < firsts {
             Place::First(channel)
@@ -39,7 +38,7 @@ pub impl<A: Bank, B: Bank> Bank for Pair<A, B> as PairBank {
     ghost channels = { λ p. paired (A·Bank .channels (p .first)) (B·Bank .channels (p .second)) };
 
     fn count(&self) -> usize {
-        CHANNELS_MOST.min(self.first.count() + self.second.count())
+        MAX_CHANNELS.min(self.first.count() + self.second.count())
     }
 
     fn facts(&self, channel: usize) -> Option<Facts> {

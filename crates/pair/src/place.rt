@@ -1,4 +1,5 @@
-// Where a channel of a pair is: in one of its banks, under that bank's own number, or nowhere.
+// Who answers for a channel of a pair: the first bank or the second, each under its own number, or nobody, past the eighth. A number
+// that the first bank has not goes to the second, which has it or not.
 #[derive(Clone, Copy)]
 pub(crate) enum Place {
     First(usize),

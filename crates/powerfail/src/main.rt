@@ -24,7 +24,14 @@ use targets::TargetBank;
 fn try_all<B: Bank>(rt: &LibcRuntime, bank: &mut B, request: &Request) -> Result<(), AnyError> {
     let block = request.block.as_slice();
     for channel in 0..bank.count() {
-        let answered = attempt(bank, channel, request.space, 0, block, u32::from(request.units));
+        let answered = attempt(
+            bank,
+            channel,
+            request.space,
+            0,
+            block,
+            u32::from(request.units),
+        );
         let mut bytes = vec![in rt.alloc(); 0; block.len()]?;
         let there = look(bank, channel, request.space, 0, bytes.as_mut_slice());
         let held = if there { bytes.as_slice() } else { &[] };

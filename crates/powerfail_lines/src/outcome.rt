@@ -1,7 +1,6 @@
 ghost use mathlib.Core.Path.{_≡_};
 ghost use Rattle.powerfail_lines.specs.Lines.{outcome-line, word};
 ghost use Rattle.std.specs.declared.option.Option.the-variants.{Some};
-
 use hex::HexBytes;
 use hex::HexBytesDisplay;
 use std::fmt;

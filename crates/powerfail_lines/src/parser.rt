@@ -1,7 +1,6 @@
 ghost use mathlib.Core.Path.{_≡_};
 ghost use Rattle.powerfail_lines.specs.Lines.{asked-if, requested, space-of};
 ghost use Rattle.std.specs.Vec.{made};
-
 use crate::request::Request;
 use bank::Space;
 use hex::byte_of;

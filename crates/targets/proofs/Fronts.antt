@@ -1,12 +1,11 @@
 -- A memory that is the front of an array. Assumes nothing.
 use mathlib.Core.Path.{_≡_, refl, sym, ap, _∙_}
-use mathlib.Core.List.{List, [], _∷_, _++_}
+use mathlib.Core.List.{List, [], _∷_}
 use Prim.Native.Nat.{ℕ, zero, suc, _+_, _-_, _≤_}
 use native.Mathlib.Omega.{arith}
 use lib.ListN.{length, take, drop}
-use Rattle.std.proofs.shelf.Lists.{drop-take, length-take, length-take-le, take-replicate, take-take}
-use Rattle.flash.specs.Blocks.{blank, land-all, landed}
-use Rattle.flash.proofs.Blocks.{land-none}
+use Rattle.std.proofs.shelf.Lists.{drop-take, length-take, length-take-le, take-take}
+use Rattle.flash.specs.Blocks.{land-all, landed}
 
 pub front-room : (size : ℕ) (os : List ℕ) → length (take size os) ≡ size → size ≤ length os
 front-room size os e = omega (arith, e, length-take size os)
@@ -36,7 +35,3 @@ front-landed f size zero vs os h = land-front f size vs os (omega arith)
 front-landed f zero (suc start) vs os h = absurd (omega arith)
 front-landed f (suc size) (suc start) vs [] h = refl
 front-landed f (suc size) (suc start) vs (o ∷ os) h = ap (λ xs. o ∷ xs) (front-landed f size start vs os (omega arith))
-
--- the front of a blank array is a blank memory
-pub front-blank : (size n : ℕ) → size ≤ n → take size (blank n) ≡ blank size
-front-blank size n h = take-replicate {X = ℕ} size n 255 h

@@ -2,12 +2,13 @@
 use mathlib.Core.Path.{_≡_, sym, ap, _∙_}
 use mathlib.Core.List.{List}
 use mathlib.Core.Logic.{⊎-elim}
-use Prim.Native.Nat.{ℕ, min, _≤_, _<_}
-use native.Mathlib.Nat.{min-eq-left, min-eq-right}
+use Prim.Native.Nat.{ℕ, min}
+use native.Mathlib.Nat.{min-eq-left, min-eq-right, min-le-left}
 use native.Mathlib.Omega.{arith}
 use lib.Dec.{eqb, leb}
 use lib.ListN.{length, take}
-use Rattle.std.proofs.shelf.Lists.{take-all}
+use Rattle.std.proofs.shelf.Lists.{length-replicate, take-all, take-replicate}
+use Rattle.flash.specs.Blocks.{blank}
 use Rattle.std.proofs.shelf.Tests.{cases-lt, eq-eqb, ne-eqb, le-leb, lt-leb}
 
 -- there are units for all exactly if the supply is not less
@@ -25,3 +26,9 @@ front-units count supply vs e =
     (λ less. ap (λ n. take n vs) (min-eq-right {n = supply} {m = count} (omega arith)))
     (λ most. take-all (min count supply) vs (omega (arith, min-eq-left most)) ∙ sym (take-all supply vs (omega arith)))
     (cases-lt supply count)
+
+-- so is that of a blank block
+pub blank-units : (count supply : ℕ) → blank (min count supply) ≡ take supply (blank count)
+blank-units count supply =
+    sym (take-replicate {X = ℕ} (min count supply) count 255 (min-le-left count supply))
+    ∙ front-units count supply (blank count) (length-replicate {A = ℕ} count 255)

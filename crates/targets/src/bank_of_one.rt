@@ -5,9 +5,11 @@ ghost use mathlib.Core.Bool.{true};
 ghost use mathlib.Core.List.{[], _∷_};
 ghost use mathlib.Core.Path.{_≡_};
 ghost use Prim.Native.Nat.{_+_, _≤_};
-ghost use Rattle.bank.specs.Effects.{cleared, memory, programmed, reached};
+ghost use Rattle.bank.specs.Effects.{memory, programmed, reached, spent};
 ghost use Rattle.bank.specs.declared.space.Space.the-variants.{Eeprom, Flash};
-ghost use Rattle.targets.specs.Targets.{channel-of};
+ghost use Rattle.flash.specs.Blocks.{blank};
+ghost use Rattle.flash.specs.Rules.{replacing};
+ghost use Rattle.targets.specs.Targets.{channel};
 use crate::memory::copy_range;
 use crate::memory::erase;
 use crate::memory::is_inside;
@@ -24,7 +26,7 @@ use flash::ReplacingLanding;
 impl<L: Landing> Target<L> {
     // How many bytes a memory has.
     fn size(&self, space: Space) -> usize
-        ensures { λ r. ⌜ r ≡ length (memory space (channel-of (L·Landing .rule) (now (self .entry) .facts) (now (self .entry) .flash) (now (self .entry) .eeprom) (now (self .entry) .power))) ⌝ }
+        ensures { λ r. ⌜ r ≡ length (memory space (channel (L·Landing .rule) (now (self .entry)))) ⌝ }
     {
         match space {
             Space::Flash => self.facts.flash_size,
@@ -34,8 +36,8 @@ impl<L: Landing> Target<L> {
 
     // Whether it is awake and has the range.
     fn reaches(&self, space: Space, start: usize, count: usize) -> bool
-        ensures answer { λ r. ⌜ r ≡ reached space start count (channel-of (L·Landing .rule) (now (self .entry) .facts) (now (self .entry) .flash) (now (self .entry) .eeprom) (now (self .entry) .power)) ⌝ }
-        ensures within { λ r. ⌜ (r ≡ true → start + count ≤ length (memory space (channel-of (L·Landing .rule) (now (self .entry) .facts) (now (self .entry) .flash) (now (self .entry) .eeprom) (now (self .entry) .power)))) ⌝ }
+        ensures answer { λ r. ⌜ r ≡ reached space start count (channel (L·Landing .rule) (now (self .entry))) ⌝ }
+        ensures within { λ r. ⌜ (r ≡ true → start + count ≤ length (memory space (channel (L·Landing .rule) (now (self .entry))))) ⌝ }
     {
         self.power.awake && is_inside(self.size(space), start, count)
     }
@@ -44,7 +46,7 @@ impl<L: Landing> Target<L> {
     fn write_flash(&mut self, start: usize, values: &[u8]) -> bool
         requires { ⌜ start + length (now values) ≤ now self .facts .«flash_size» ⌝ }
         ensures answer { λ r. ⌜ r ≡ leb (length (now (values .entry))) (now (self .entry) .power .supply) ⌝ }
-        ensures after { λ _. ⌜ channel-of (L·Landing .rule) (now (self .exit) .facts) (now (self .exit) .flash) (now (self .exit) .eeprom) (now (self .exit) .power) ≡ programmed Flash start (now (values .entry)) (channel-of (L·Landing .rule) (now (self .entry) .facts) (now (self .entry) .flash) (now (self .entry) .eeprom) (now (self .entry) .power)) ⌝ }
+        ensures after { λ _. ⌜ channel (L·Landing .rule) (now (self .exit)) ≡ spent (length (now (values .entry))) (programmed (L·Landing .rule) Flash start (now (values .entry)) (channel (L·Landing .rule) (now (self .entry)))) ⌝ }
     {
         program::<L>(
             &mut self.flash,
@@ -59,7 +61,7 @@ impl<L: Landing> Target<L> {
     fn write_eeprom(&mut self, start: usize, values: &[u8]) -> bool
         requires { ⌜ start + length (now values) ≤ now self .facts .«eeprom_size» ⌝ }
         ensures answer { λ r. ⌜ r ≡ leb (length (now (values .entry))) (now (self .entry) .power .supply) ⌝ }
-        ensures after { λ _. ⌜ channel-of (L·Landing .rule) (now (self .exit) .facts) (now (self .exit) .flash) (now (self .exit) .eeprom) (now (self .exit) .power) ≡ programmed Eeprom start (now (values .entry)) (channel-of (L·Landing .rule) (now (self .entry) .facts) (now (self .entry) .flash) (now (self .entry) .eeprom) (now (self .entry) .power)) ⌝ }
+        ensures after { λ _. ⌜ channel (L·Landing .rule) (now (self .exit)) ≡ spent (length (now (values .entry))) (programmed replacing Eeprom start (now (values .entry)) (channel (L·Landing .rule) (now (self .entry)))) ⌝ }
     {
         program::<Replacing>(
             &mut self.eeprom,
@@ -74,7 +76,7 @@ impl<L: Landing> Target<L> {
     fn erase_flash(&mut self, start: usize, count: usize) -> bool
         requires { ⌜ start + count ≤ now self .facts .«flash_size» ⌝ }
         ensures answer { λ r. ⌜ r ≡ leb count (now (self .entry) .power .supply) ⌝ }
-        ensures after { λ _. ⌜ channel-of (L·Landing .rule) (now (self .exit) .facts) (now (self .exit) .flash) (now (self .exit) .eeprom) (now (self .exit) .power) ≡ cleared start count (channel-of (L·Landing .rule) (now (self .entry) .facts) (now (self .entry) .flash) (now (self .entry) .eeprom) (now (self .entry) .power)) ⌝ }
+        ensures after { λ _. ⌜ channel (L·Landing .rule) (now (self .exit)) ≡ spent count (programmed replacing Flash start (blank count) (channel (L·Landing .rule) (now (self .entry)))) ⌝ }
     {
         erase(
             &mut self.flash,
@@ -87,7 +89,7 @@ impl<L: Landing> Target<L> {
 }
 
 pub impl<L: Landing> Bank for Target<L> as TargetBank {
-    ghost channels = { λ t. channel-of (L·Landing .rule) (t .facts) (t .flash) (t .eeprom) (t .power) ∷ [] };
+    ghost channels = { λ t. channel (L·Landing .rule) t ∷ [] };
 
     fn count(&self) -> usize {
         1

@@ -2,15 +2,15 @@
 ghost use lib.ListN.{length, take};
 ghost use mathlib.Core.Path.{_≡_};
 ghost use Prim.Native.Nat.{_≤_};
-ghost use Rattle.bank.specs.Facts.{sheet};
+ghost use Rattle.bank.specs.Facts.{facts-of};
 ghost use Rattle.bytes.specs.Bytes.{Bytes};
 ghost use Rattle.flash.specs.Blocks.{blank};
-ghost use Rattle.targets.specs.Targets.{channel-of, new-channel};
+ghost use Rattle.targets.specs.Targets.{channel, new-channel};
 use crate::power::Power;
 use crate::target::Target;
-use bank::EEPROM_MOST;
-use bank::FLASH_MOST;
 use bank::Facts;
+use bank::MAX_EEPROM_SIZE;
+use bank::MAX_FLASH_SIZE;
 use flash::Landing;
 use std::marker::PhantomData;
 
@@ -27,12 +27,12 @@ fn blank_array<const N: usize>(size: usize) -> [u8; N]
 impl<L: Landing> Target<L> {
     // A new target with these facts: every byte FF, no supply, asleep.
     pub fn new(facts: Facts) -> Target<L>
-        ensures { λ r. ⌜ channel-of (L·Landing .rule) (r .facts) (r .flash) (r .eeprom) (r .power) ≡ new-channel (sheet facts) (L·Landing .rule) ⌝ }
+        ensures { λ r. ⌜ channel (L·Landing .rule) r ≡ new-channel (facts-of facts) (L·Landing .rule) ⌝ }
     {
         Target {
             facts,
-            flash: blank_array::<FLASH_MOST>(facts.flash_size),
-            eeprom: blank_array::<EEPROM_MOST>(facts.eeprom_size),
+            flash: blank_array::<MAX_FLASH_SIZE>(facts.flash_size),
+            eeprom: blank_array::<MAX_EEPROM_SIZE>(facts.eeprom_size),
             power: Power::new(0),
             landing: PhantomData,
         }

@@ -1,3 +1,4 @@
+// Targets: motor controllers over any landing rule, each a bank of one channel.
 mod bank_of_one;
 mod building;
 mod memory;

@@ -1,19 +1,20 @@
 // Ranges of a memory that is the front of an array, `size` bytes of it: copied, programmed and blanked.
 ghost use lib.Dec.{leb, ltb};
 ghost use lib.ListN.{drop, length, take};
-ghost use mathlib.Core.Bool.{true};
+ghost use mathlib.Core.Bool.{true, _&&_};
 ghost use mathlib.Core.Path.{_≡_};
-ghost use Prim.Native.Nat.{min, _+_, _-_, _≤_};
+ghost use Prim.Native.Nat.{_+_, _-_, _≤_};
 ghost use Rattle.bank.specs.Effects.{inside};
 ghost use Rattle.bytes.specs.Bytes.{Bytes};
-ghost use Rattle.flash.specs.Blocks.{blanked, landed};
+ghost use Rattle.flash.specs.Blocks.{blank, blanked, landed};
+ghost use Rattle.flash.specs.Rules.{replacing};
 use crate::power::Power;
 use flash::Landing;
 use flash::blank_block;
 use flash::land_block;
 
 // Whether a range is inside a memory of `size` bytes. An empty one is not.
-pub fn is_inside(size: usize, start: usize, count: usize) -> bool
+pub(crate) fn is_inside(size: usize, start: usize, count: usize) -> bool
     ensures answer { λ r. ⌜ r ≡ inside size start count ⌝ }
     ensures within { λ r. ⌜ (r ≡ true → start + count ≤ size) ⌝ }
 {
@@ -21,14 +22,14 @@ pub fn is_inside(size: usize, start: usize, count: usize) -> bool
 }
 
 // Copies the bytes from the address `start` on, as many as the buffer has.
-pub fn copy_range(array: &[u8], size: usize, start: usize, buffer: &mut [u8])
+pub(crate) fn copy_range(array: &[u8], size: usize, start: usize, buffer: &mut [u8])
     requires { ⌜ length (take size (now array)) ≡ size ⌝ ∗ ⌜ start + length (now buffer) ≤ size ⌝ }
     ensures { λ _. ⌜ now (buffer .exit) ≡ take (length (now (buffer .entry))) (drop start (take size (now (array .entry)))) ⌝ }
 {
     buffer.copy_from_slice(&array[start..start + buffer.len()]);
 }
 
-// Lands the values. Nothing lands behind the memory.
+// Lands the values.
 fn land_within<L: Landing>(array: &mut [u8], size: usize, start: usize, values: &[u8])
     requires { ⌜ length (take size (now array)) ≡ size ⌝ ∗ ⌜ start + length (now values) ≤ size ⌝ }
     ensures after { λ _. ⌜ take size (now (array .exit)) ≡ landed (L·Landing .rule) start (now (values .entry)) (take size (now (array .entry))) ⌝ }
@@ -38,7 +39,7 @@ fn land_within<L: Landing>(array: &mut [u8], size: usize, start: usize, values: 
     land_block::<L>(array, start, values);
 }
 
-// Blanks `count` bytes. Nothing is blanked behind the memory.
+// Blanks `count` bytes.
 fn blank_within(array: &mut [u8], size: usize, start: usize, count: usize)
     requires { ⌜ length (take size (now array)) ≡ size ⌝ ∗ ⌜ start + count ≤ size ⌝ }
     ensures after { λ _. ⌜ take size (now (array .exit)) ≡ blanked start count (take size (now (array .entry))) ⌝ }
@@ -49,7 +50,7 @@ fn blank_within(array: &mut [u8], size: usize, start: usize, count: usize)
 }
 
 // Lands as many of the values as there are units, and tells whether that is all of them.
-pub fn program<L: Landing>(
+pub(crate) fn program<L: Landing>(
     array: &mut [u8],
     size: usize,
     power: &mut Power,
@@ -62,7 +63,7 @@ pub fn program<L: Landing>(
     ensures long { λ _. ⌜ length (take size (now (array .exit))) ≡ size ⌝ }
     ensures bytes { λ _. ⌜ (Bytes (take size (now (array .entry))) → Bytes (take size (now (array .exit)))) ⌝ }
     ensures supply { λ _. ⌜ now (power .exit) .supply ≡ now (power .entry) .supply - length (now (values .entry)) ⌝ }
-    ensures awake { λ _. ⌜ now (power .exit) .awake ≡ ltb 0 (now (power .entry) .supply - length (now (values .entry))) ⌝ }
+    ensures awake { λ _. ⌜ now (power .exit) .awake ≡ (now (power .entry) .awake && ltb 0 (now (power .entry) .supply - length (now (values .entry)))) ⌝ }
 {
     let units = power.spend(values.len());
     land_within::<L>(array, size, start, &values[0..units]);
@@ -70,14 +71,20 @@ pub fn program<L: Landing>(
 }
 
 // Blanks as many bytes as there are units, and tells whether that is all of them.
-pub fn erase(array: &mut [u8], size: usize, power: &mut Power, start: usize, count: usize) -> bool
+pub(crate) fn erase(
+    array: &mut [u8],
+    size: usize,
+    power: &mut Power,
+    start: usize,
+    count: usize,
+) -> bool
     requires { ⌜ length (take size (now array)) ≡ size ⌝ ∗ ⌜ start + count ≤ size ⌝ }
     ensures answer { λ r. ⌜ r ≡ leb count (now (power .entry) .supply) ⌝ }
-    ensures after { λ _. ⌜ take size (now (array .exit)) ≡ blanked start (min count (now (power .entry) .supply)) (take size (now (array .entry))) ⌝ }
+    ensures after { λ _. ⌜ take size (now (array .exit)) ≡ landed replacing start (take (now (power .entry) .supply) (blank count)) (take size (now (array .entry))) ⌝ }
     ensures long { λ _. ⌜ length (take size (now (array .exit))) ≡ size ⌝ }
     ensures bytes { λ _. ⌜ (Bytes (take size (now (array .entry))) → Bytes (take size (now (array .exit)))) ⌝ }
     ensures supply { λ _. ⌜ now (power .exit) .supply ≡ now (power .entry) .supply - count ⌝ }
-    ensures awake { λ _. ⌜ now (power .exit) .awake ≡ ltb 0 (now (power .entry) .supply - count) ⌝ }
+    ensures awake { λ _. ⌜ now (power .exit) .awake ≡ (now (power .entry) .awake && ltb 0 (now (power .entry) .supply - count)) ⌝ }
 {
     let units = power.spend(count);
     blank_within(array, size, start, units);

@@ -2,17 +2,17 @@ ghost use lib.ListN.{length, take};
 ghost use mathlib.Core.Path.{_≡_};
 ghost use Rattle.bytes.specs.Bytes.{Bytes};
 use crate::power::Power;
-use bank::EEPROM_MOST;
-use bank::FLASH_MOST;
 use bank::Facts;
+use bank::MAX_EEPROM_SIZE;
+use bank::MAX_FLASH_SIZE;
 use std::marker::PhantomData;
 
 // One motor controller, whose flash lands by the rule `L`. Of each array the front is in use, as much of it as the facts say.
 #[derive(Drop)]
 pub struct Target<L> {
     pub(crate) facts: Facts,
-    pub(crate) flash: [u8; FLASH_MOST],
-    pub(crate) eeprom: [u8; EEPROM_MOST],
+    pub(crate) flash: [u8; MAX_FLASH_SIZE],
+    pub(crate) eeprom: [u8; MAX_EEPROM_SIZE],
     pub(crate) power: Power,
     pub(crate) landing: PhantomData<L>,
     ghost flash_long: { length (take (facts .«flash_size») flash) ≡ facts .«flash_size» },

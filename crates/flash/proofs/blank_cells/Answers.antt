@@ -1,12 +1,11 @@
-use mathlib.Core.Path.{_≡_, sym, ap, subst, _∙_}
+use mathlib.Core.Path.{_≡_, sym, ap, _∙_}
 use Prim.Native.Nat.{ℕ, min, _+_, _-_}
 use native.Mathlib.Omega.{arith}
 use lib.ListN.{length, set, take}
 use Rattle.std.proofs.shelf.Lists.{getD-replicate, length-replicate}
-use Rattle.bytes.specs.Bytes.{Bytes}
 use Rattle.flash.specs.Rules.{replacing}
 use Rattle.flash.specs.Blocks.{blank, blanked, landed}
-use Rattle.flash.proofs.Blocks.{blanked-again, blanked-bytes, blanked-enough, landed-more, landed-none}
+use Rattle.flash.proofs.Blocks.{blanked-again, blanked-enough, landed-more, landed-none}
 use Rattle.flash.proofs.blank_cells.Needs as need
 
 pub loop-i-holds : need.loop-i-holds
@@ -30,5 +29,4 @@ pub returns : need.returns
 returns c = record {
   blanks = whole c;
   retry = λ n m ks os b e. whole c n m ∙ ap (blanked (c .args .start) n) e ∙ blanked-again (c .args .start) n ks os b;
-  bytes = λ b. subst Bytes (sym (c .loop-i .inv)) (blanked-bytes (c .args .start) (c .loop-i .i) (c .args .count) (c .args .memory .now) b);
 }

@@ -1,9 +1,9 @@
 use borrow.Author.Needs.{needs}
-use mathlib.Core.Path.{_≡_, sym, ap, subst, _∙_}
+use mathlib.Core.Path.{_≡_, ap, _∙_}
 use native.Mathlib.Omega.{arith}
 use Rattle.bytes.specs.Bytes.{Bytes}
 use Rattle.flash.specs.Blocks.{landed}
-use Rattle.flash.proofs.Blocks.{exact, landed-bytes, landed-enough, landed-more, landed-none, retried}
+use Rattle.flash.proofs.Blocks.{exact, landed-enough, landed-more, landed-none, retried}
 use Rattle.flash.proofs.land_cells.Needs as need
 
 pub loop-i-holds : need.loop-i-holds
@@ -26,7 +26,6 @@ returns g c =
     let whole : c .loop-i .memory ≡ landed f start vs os = c .loop-i .inv ∙ landed-enough f start vs os (c .loop-i .i) (λ k. omega arith) in
     record {
       lands = whole;
-      retry = λ ks ms b e. whole ∙ ap (landed f start vs) e ∙ retried f (g .L·Landing·met .onbytes) (g .L·Landing·met .again) start vs ks ms bytes b;
-      exact = λ ms e. whole ∙ ap (landed f start vs) e ∙ exact f (g .L·Landing·met .fresh) start vs ms bytes;
-      bytes = λ b. subst Bytes (sym whole) (landed-bytes f (g .L·Landing·met .onbytes) start vs os bytes b);
+      retry = λ ks ms b e. whole ∙ ap (landed f start vs) e ∙ retried f (g .L·Landing·met .onbytes) (g .L·Landing·met .idempotent) start vs ks ms bytes b;
+      exact = λ ms e. whole ∙ ap (landed f start vs) e ∙ exact f (g .L·Landing·met .onblank) start vs ms bytes;
     }

@@ -7,6 +7,7 @@ use Rattle.bytes.specs.Bytes.{Bytes}
 use Rattle.flash.specs.Blocks.{blank, blanked}
 use Rattle.flash.specs.Rules.{replacing}
 use Rattle.flash.proofs.Blocks.{blank-bytes, landed-bytes}
+use Rattle.flash.proofs.Rules.{replacing-on-bytes}
 use Rattle.targets.proofs.Fronts.{front-landed, front-long}
 use Rattle.targets.proofs.memory.blank_within.Needs as need
 
@@ -22,5 +23,5 @@ returns c =
     record {
       after = after;
       long = front-long size os (c .blank-block .last .memory) (c .blank-block .kept .memory) (c .pre .0);
-      bytes = λ b. subst Bytes (sym after) (landed-bytes replacing (λ o v h k. k) start vs (take size os) (blank-bytes (c .args .count)) b);
+      bytes = λ b. subst Bytes (sym after) (landed-bytes replacing replacing-on-bytes start vs (take size os) (blank-bytes (c .args .count)) b);
     }
