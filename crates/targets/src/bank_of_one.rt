@@ -14,7 +14,6 @@ use crate::memory::copy_range;
 use crate::memory::erase;
 use crate::memory::is_inside;
 use crate::memory::program;
-use crate::power::Power;
 use crate::target::Target;
 use bank::Bank;
 use bank::Facts;
@@ -22,6 +21,7 @@ use bank::Space;
 use flash::Landing;
 use flash::Replacing;
 use flash::ReplacingLanding;
+use power::Power;
 
 impl<L: Landing> Target<L> {
     // How many bytes a memory has.

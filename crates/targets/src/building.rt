@@ -6,12 +6,12 @@ ghost use Rattle.bank.specs.Facts.{facts-of};
 ghost use Rattle.bytes.specs.Bytes.{Bytes};
 ghost use Rattle.flash.specs.Blocks.{blank};
 ghost use Rattle.targets.specs.Targets.{channel, new-channel};
-use crate::power::Power;
 use crate::target::Target;
 use bank::Facts;
 use bank::MAX_EEPROM_SIZE;
 use bank::MAX_FLASH_SIZE;
 use flash::Landing;
+use power::Power;
 use std::marker::PhantomData;
 
 // An array whose front, `size` bytes of it, is a blank memory.

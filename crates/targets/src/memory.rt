@@ -1,17 +1,18 @@
 // Ranges of a memory that is the front of an array, `size` bytes of it: copied, programmed and blanked.
-ghost use lib.Dec.{leb, ltb};
+ghost use lib.Dec.{eqb, leb, ltb};
 ghost use lib.ListN.{drop, length, take};
 ghost use mathlib.Core.Bool.{true, _&&_};
+ghost use mathlib.Core.List.{List};
 ghost use mathlib.Core.Path.{_≡_};
-ghost use Prim.Native.Nat.{_+_, _-_, _≤_};
+ghost use Prim.Native.Nat.{ℕ, _+_, _-_, _≤_};
 ghost use Rattle.bank.specs.Effects.{inside};
 ghost use Rattle.bytes.specs.Bytes.{Bytes};
 ghost use Rattle.flash.specs.Blocks.{blank, blanked, landed};
 ghost use Rattle.flash.specs.Rules.{replacing};
-use crate::power::Power;
 use flash::Landing;
 use flash::blank_block;
 use flash::land_block;
+use power::Power;
 
 // Whether a range is inside a memory of `size` bytes. An empty one is not.
 pub(crate) fn is_inside(size: usize, start: usize, count: usize) -> bool
@@ -27,6 +28,19 @@ pub(crate) fn copy_range(array: &[u8], size: usize, start: usize, buffer: &mut [
     ensures { λ _. ⌜ now (buffer .exit) ≡ take (length (now (buffer .entry))) (drop start (take size (now (array .entry)))) ⌝ }
 {
     buffer.copy_from_slice(&array[start..start + buffer.len()]);
+}
+
+// Uses the units for `count` bytes, and tells how many bytes there are units for: all of them exactly if the supply is not less, and
+// of any block as long a front as the supply.
+fn spend(power: &mut Power, count: usize) -> usize
+    ensures most { λ r. ⌜ r ≤ count ⌝ }
+    ensures all { λ r. ⌜ eqb r count ≡ leb count (now (power .entry) .supply) ⌝ }
+    ensures front { λ r. ⌜ ((vs : List ℕ) → length vs ≡ count → take r vs ≡ take (now (power .entry) .supply) vs) ⌝ }
+    ensures blank { λ r. ⌜ blank r ≡ take (now (power .entry) .supply) (blank count) ⌝ }
+    ensures supply { λ _. ⌜ now (power .exit) .supply ≡ now (power .entry) .supply - count ⌝ }
+    ensures awake { λ _. ⌜ now (power .exit) .awake ≡ (now (power .entry) .awake && ltb 0 (now (power .entry) .supply - count)) ⌝ }
+{
+    power.spend(count)
 }
 
 // Lands the values.
@@ -65,7 +79,7 @@ pub(crate) fn program<L: Landing>(
     ensures supply { λ _. ⌜ now (power .exit) .supply ≡ now (power .entry) .supply - length (now (values .entry)) ⌝ }
     ensures awake { λ _. ⌜ now (power .exit) .awake ≡ (now (power .entry) .awake && ltb 0 (now (power .entry) .supply - length (now (values .entry)))) ⌝ }
 {
-    let units = power.spend(values.len());
+    let units = spend(power, values.len());
     land_within::<L>(array, size, start, &values[0..units]);
     units == values.len()
 }
@@ -86,7 +100,7 @@ pub(crate) fn erase(
     ensures supply { λ _. ⌜ now (power .exit) .supply ≡ now (power .entry) .supply - count ⌝ }
     ensures awake { λ _. ⌜ now (power .exit) .awake ≡ (now (power .entry) .awake && ltb 0 (now (power .entry) .supply - count)) ⌝ }
 {
-    let units = power.spend(count);
+    let units = spend(power, count);
     blank_within(array, size, start, units);
     units == count
 }

@@ -1,10 +1,10 @@
 ghost use lib.ListN.{length, take};
 ghost use mathlib.Core.Path.{_≡_};
 ghost use Rattle.bytes.specs.Bytes.{Bytes};
-use crate::power::Power;
 use bank::Facts;
 use bank::MAX_EEPROM_SIZE;
 use bank::MAX_FLASH_SIZE;
+use power::Power;
 use std::marker::PhantomData;
 
 // One motor controller, whose flash lands by the rule `L`. Of each array the front is in use, as much of it as the facts say.
