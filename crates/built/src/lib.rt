@@ -1,6 +1,8 @@
 // The four targets that are built in, one of each mode, as they are when new.
+ghost use mathlib.Core.Bool.{true};
 ghost use mathlib.Core.Path.{_≡_};
 ghost use Rattle.bank.specs.Facts.{facts-of};
+ghost use Rattle.bank.specs.Sizes.{sizes-fit};
 ghost use Rattle.bank.specs.declared.mode.Mode.the-variants.{AtmBLB, AtmSK, SiC2, SiLBLB};
 ghost use Rattle.built.specs.Built.{built, built-facts};
 ghost use Rattle.flash.specs.Rules.{clearing, replacing};
@@ -14,40 +16,29 @@ use flash::Replacing;
 use flash::ReplacingLanding;
 use targets::Target;
 
+// Facts of a target with the flash that all built ones have.
+fn facts(mode: Mode, page_size: usize, eeprom_size: usize, identity: [u8; 3]) -> Facts
+    requires { ⌜ sizes-fit mode 8192 «page_size» «eeprom_size» ≡ true ⌝ }
+    ensures { λ r. ⌜ facts-of r ≡ record { mode = mode; flash-size = 8192; page-size = «page_size»; eeprom-size = «eeprom_size»; identity = identity } ⌝ }
+{
+    Facts {
+        mode,
+        flash_size: 8_192,
+        page_size,
+        eeprom_size,
+        identity,
+    }
+}
+
 // The facts of the built target of a mode.
 fn built_facts(mode: Mode) -> Facts
     ensures { λ r. ⌜ facts-of r ≡ built-facts mode ⌝ }
 {
-    let flash_size = 8_192;
     match mode {
-        Mode::SiC2 => Facts {
-            mode,
-            flash_size,
-            page_size: 512,
-            eeprom_size: 0,
-            identity: [0x0A, 0x00, 0x03],
-        },
-        Mode::SiLBLB => Facts {
-            mode,
-            flash_size,
-            page_size: 512,
-            eeprom_size: 0,
-            identity: [0xF3, 0x30, 0x31],
-        },
-        Mode::AtmBLB => Facts {
-            mode,
-            flash_size,
-            page_size: 64,
-            eeprom_size: 512,
-            identity: [0x93, 0x07, 0x31],
-        },
-        Mode::AtmSK => Facts {
-            mode,
-            flash_size,
-            page_size: 64,
-            eeprom_size: 512,
-            identity: [0x93, 0x07, 0x32],
-        },
+        Mode::SiC2 => facts(mode, 512, 0, [0x0A, 0x00, 0x03]),
+        Mode::SiLBLB => facts(mode, 512, 0, [0xF3, 0x30, 0x31]),
+        Mode::AtmBLB => facts(mode, 64, 512, [0x93, 0x07, 0x31]),
+        Mode::AtmSK => facts(mode, 64, 512, [0x93, 0x07, 0x32]),
     }
 }
 

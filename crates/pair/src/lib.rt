@@ -34,6 +34,17 @@ impl<A: Bank, B: Bank> Pair<A, B> {
     }
 }
 
+// Hands a call on to the bank that answers for the channel, under that bank's own number for it. `$outside` is said past the eighth.
+macro_rules! hand_on {
+    ($pair:ident, $channel:ident, $call:ident($($argument:expr),*), $outside:expr) => {
+        match $pair.locate($channel) {
+            Place::First(i) => $pair.first.$call(i $(, $argument)*),
+            Place::Second(i) => $pair.second.$call(i $(, $argument)*),
+            Place::Outside => $outside,
+        }
+    };
+}
+
 pub impl<A: Bank, B: Bank> Bank for Pair<A, B> as PairBank {
     ghost channels = { λ p. paired (A·Bank .channels (p .first)) (B·Bank .channels (p .second)) };
 
@@ -42,66 +53,34 @@ pub impl<A: Bank, B: Bank> Bank for Pair<A, B> as PairBank {
     }
 
     fn facts(&self, channel: usize) -> Option<Facts> {
-        match self.locate(channel) {
-            Place::First(i) => self.first.facts(i),
-            Place::Second(i) => self.second.facts(i),
-            Place::Outside => None,
-        }
+        hand_on!(self, channel, facts(), None)
     }
 
     fn alive(&self, channel: usize) -> Option<bool> {
-        match self.locate(channel) {
-            Place::First(i) => self.first.alive(i),
-            Place::Second(i) => self.second.alive(i),
-            Place::Outside => None,
-        }
+        hand_on!(self, channel, alive(), None)
     }
 
     fn enter(&mut self, channel: usize) -> bool {
-        match self.locate(channel) {
-            Place::First(i) => self.first.enter(i),
-            Place::Second(i) => self.second.enter(i),
-            Place::Outside => false,
-        }
+        hand_on!(self, channel, enter(), false)
     }
 
     fn sleep(&mut self, channel: usize) -> bool {
-        match self.locate(channel) {
-            Place::First(i) => self.first.sleep(i),
-            Place::Second(i) => self.second.sleep(i),
-            Place::Outside => false,
-        }
+        hand_on!(self, channel, sleep(), false)
     }
 
     fn read(&self, channel: usize, space: Space, start: usize, buffer: &mut [u8]) -> bool {
-        match self.locate(channel) {
-            Place::First(i) => self.first.read(i, space, start, buffer),
-            Place::Second(i) => self.second.read(i, space, start, buffer),
-            Place::Outside => false,
-        }
+        hand_on!(self, channel, read(space, start, buffer), false)
     }
 
     fn write(&mut self, channel: usize, space: Space, start: usize, values: &[u8]) -> bool {
-        match self.locate(channel) {
-            Place::First(i) => self.first.write(i, space, start, values),
-            Place::Second(i) => self.second.write(i, space, start, values),
-            Place::Outside => false,
-        }
+        hand_on!(self, channel, write(space, start, values), false)
     }
 
     fn erase(&mut self, channel: usize, start: usize, count: usize) -> bool {
-        match self.locate(channel) {
-            Place::First(i) => self.first.erase(i, start, count),
-            Place::Second(i) => self.second.erase(i, start, count),
-            Place::Outside => false,
-        }
+        hand_on!(self, channel, erase(start, count), false)
     }
 
     fn supply(&mut self, channel: usize, units: u32) -> bool {
-        match self.locate(channel) {
-            Place::First(i) => self.first.supply(i, units),
-            Place::Second(i) => self.second.supply(i, units),
-            Place::Outside => false,
-        }
+        hand_on!(self, channel, supply(units), false)
     }
 }

@@ -23,42 +23,29 @@ use targets::TargetBank;
 // Tries the block on each channel, and prints what came of it. Where the memory has no such range it holds nothing to show.
 fn try_all<B: Bank>(rt: &LibcRuntime, bank: &mut B, request: &Request) -> Result<(), AnyError> {
     let block = request.block.as_slice();
+    let units = u32::from(request.units);
     for channel in 0..bank.count() {
-        let answered = attempt(
-            bank,
-            channel,
-            request.space,
-            0,
-            block,
-            u32::from(request.units),
-        );
+        let answered = attempt(bank, channel, request.space, 0, block, units);
+        let awake = bank.alive(channel) == Some(true);
         let mut bytes = vec![in rt.alloc(); 0; block.len()]?;
         let there = look(bank, channel, request.space, 0, bytes.as_mut_slice());
         let held = if there { bytes.as_slice() } else { &[] };
         rt.println(Outcome {
             channel,
             answered,
+            awake,
             held,
         })?;
     }
     Ok(())
 }
 
-fn run(rt: &LibcRuntime) -> Result<(), AnyError> {
+// Answers each line of standard input.
+fn serve<B: Bank>(rt: &LibcRuntime, bank: &mut B) -> Result<(), AnyError> {
     let heap = rt.alloc();
-    let mut bank = Pair {
-        first: Pair {
-            first: sic2(),
-            second: silblb(),
-        },
-        second: Pair {
-            first: atmblb(),
-            second: atmsk(),
-        },
-    };
     for line in BufReader::new(rt.stdin()).split(heap, b'\n') {
         match parse(heap, line?.as_slice())? {
-            Some(request) => try_all(rt, &mut bank, &request)?,
+            Some(request) => try_all(rt, bank, &request)?,
             None => rt.println("?")?,
         }
     }
@@ -66,5 +53,19 @@ fn run(rt: &LibcRuntime) -> Result<(), AnyError> {
 }
 
 fn main(rt: LibcRuntime) -> Result<(), AnyError> {
-    rt.report(run(&rt))
+    let clearing = Pair {
+        first: sic2(),
+        second: silblb(),
+    };
+    let replacing = Pair {
+        first: atmblb(),
+        second: atmsk(),
+    };
+    rt.report(serve(
+        &rt,
+        &mut Pair {
+            first: clearing,
+            second: replacing,
+        },
+    ))
 }

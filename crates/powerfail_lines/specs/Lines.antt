@@ -44,10 +44,17 @@ requested line =
     None
 
 -- How an answer is told.
-abbrev pub word : Bool → List ℕ
-word true = codes "answered"
-word false = codes "no answer"
+abbrev pub answer-word : Bool → List ℕ
+answer-word true = codes "answered"
+answer-word false = codes "no answer"
 
--- What came of an attempt on a channel: its number, whether it was answered, and the bytes that the memory then holds.
-abbrev pub outcome-line : ℕ → Bool → List ℕ → List ℕ
-outcome-line channel answered held = decimal channel ++ (codes " " ++ (word answered ++ hex-bytes held))
+-- How it is told whether a target is awake.
+abbrev pub state-word : Bool → List ℕ
+state-word true = codes "awake"
+state-word false = codes "asleep"
+
+-- What came of an attempt on a channel: its number, whether it was answered, whether the target was awake after it, and the bytes that
+-- the memory then holds.
+abbrev pub outcome-line : ℕ → Bool → Bool → List ℕ → List ℕ
+outcome-line channel answered awake held =
+    decimal channel ++ (codes " " ++ (answer-word answered ++ (codes " " ++ (state-word awake ++ hex-bytes held))))
