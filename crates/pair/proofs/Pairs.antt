@@ -1,67 +1,18 @@
 -- A channel of a pair is the channel of one of its banks. Assumes nothing.
-use mathlib.Core.Path.{_≡_, refl, sym, ap, _∙_}
+use mathlib.Core.Path.{_≡_, sym, ap, _∙_}
 use mathlib.Core.Bool.{cond}
-use mathlib.Core.List.{List, [], _∷_, _++_}
-use Prim.Native.Nat.{ℕ, zero, suc, min, _+_, _-_, _<_, _≤_}
-use native.Mathlib.Nat.{suc-sub-suc, sub-zero}
+use mathlib.Core.List.{List, _++_}
+use Prim.Native.Nat.{ℕ, min, _+_, _-_, _<_, _≤_}
 use native.Mathlib.Omega.{arith}
 use lib.Dec.{leb, ltb}
 use lib.ListN.{length, take}
 use Rattle.std.proofs.shelf.Lists.{length-append, length-take}
 use Rattle.std.proofs.shelf.Tests.{cond-both, leb-true, leb-false, ltb-true, ltb-false}
-use Rattle.bank.specs.Channels.{AllSound, Channel, SoundBank, alter, ask}
+use Rattle.bank.specs.Channels.{Channel, SoundBank, alter, ask}
+use Rattle.bank.proofs.Channels.{alter-first, alter-front, alter-past, alter-second, ask-first, ask-front, ask-past, ask-second, sound-append, sound-take}
 use Rattle.pair.specs.Places.{paired, placed}
 use Rattle.pair.specs.declared.place.Place.{Place}
 use Rattle.pair.specs.declared.place.Place.the-variants.{First, Second, Outside}
-
--- ---- asking and altering one channel of the list
-
-ask-past : {A : Type 0} (d : A) (f : Channel → A) (cs : List Channel) (n i : ℕ) → n ≤ i → ask d f (take n cs) i ≡ d
-ask-past d f cs zero i h = refl
-ask-past d f [] (suc n) i h = refl
-ask-past d f (c ∷ cs) (suc n) zero h = absurd (omega arith)
-ask-past d f (c ∷ cs) (suc n) (suc i) h = ask-past d f cs n i (omega arith)
-
-ask-front : {A : Type 0} (d : A) (f : Channel → A) (cs : List Channel) (n i : ℕ) → i < n → ask d f (take n cs) i ≡ ask d f cs i
-ask-front d f cs zero i h = absurd (omega arith)
-ask-front d f [] (suc n) i h = refl
-ask-front d f (c ∷ cs) (suc n) zero h = refl
-ask-front d f (c ∷ cs) (suc n) (suc i) h = ask-front d f cs n i (omega arith)
-
-ask-first : {A : Type 0} (d : A) (f : Channel → A) (xs ys : List Channel) (i : ℕ) → i < length xs → ask d f (xs ++ ys) i ≡ ask d f xs i
-ask-first d f [] ys i h = absurd (omega arith)
-ask-first d f (x ∷ xs) ys zero h = refl
-ask-first d f (x ∷ xs) ys (suc i) h = ask-first d f xs ys i (omega arith)
-
-ask-second : {A : Type 0} (d : A) (f : Channel → A) (xs ys : List Channel) (i : ℕ) → length xs ≤ i →
-    ask d f (xs ++ ys) i ≡ ask d f ys (i - length xs)
-ask-second d f [] ys i h = ap (ask d f ys) (sym (sub-zero i))
-ask-second d f (x ∷ xs) ys zero h = absurd (omega arith)
-ask-second d f (x ∷ xs) ys (suc i) h = ask-second d f xs ys i (omega arith) ∙ ap (ask d f ys) (sym (suc-sub-suc i (length xs)))
-
-alter-past : (h : Channel → Channel) (cs : List Channel) (n i : ℕ) → n ≤ i → alter h (take n cs) i ≡ take n cs
-alter-past h cs zero i l = refl
-alter-past h [] (suc n) i l = refl
-alter-past h (c ∷ cs) (suc n) zero l = absurd (omega arith)
-alter-past h (c ∷ cs) (suc n) (suc i) l = ap (λ xs. c ∷ xs) (alter-past h cs n i (omega arith))
-
-alter-front : (h : Channel → Channel) (cs : List Channel) (n i : ℕ) → alter h (take n cs) i ≡ take n (alter h cs i)
-alter-front h cs zero i = refl
-alter-front h [] (suc n) i = refl
-alter-front h (c ∷ cs) (suc n) zero = refl
-alter-front h (c ∷ cs) (suc n) (suc i) = ap (λ xs. c ∷ xs) (alter-front h cs n i)
-
-alter-first : (h : Channel → Channel) (xs ys : List Channel) (i : ℕ) → i < length xs → alter h (xs ++ ys) i ≡ alter h xs i ++ ys
-alter-first h [] ys i l = absurd (omega arith)
-alter-first h (x ∷ xs) ys zero l = refl
-alter-first h (x ∷ xs) ys (suc i) l = ap (λ zs. x ∷ zs) (alter-first h xs ys i (omega arith))
-
-alter-second : (h : Channel → Channel) (xs ys : List Channel) (i : ℕ) → length xs ≤ i →
-    alter h (xs ++ ys) i ≡ xs ++ alter h ys (i - length xs)
-alter-second h [] ys i l = ap (alter h ys) (sym (sub-zero i))
-alter-second h (x ∷ xs) ys zero l = absurd (omega arith)
-alter-second h (x ∷ xs) ys (suc i) l =
-    ap (λ zs. x ∷ zs) (alter-second h xs ys i (omega arith) ∙ ap (λ k. xs ++ alter h ys k) (sym (suc-sub-suc i (length xs))))
 
 -- ---- by place
 
@@ -104,15 +55,6 @@ altered h xs ys i p e =
     ∙ ap (alter-at h xs ys) (sym e)
 
 -- ---- soundness
-
-sound-append : (xs ys : List Channel) → AllSound xs → AllSound ys → AllSound (xs ++ ys)
-sound-append [] ys a b = b
-sound-append (x ∷ xs) ys a b = (a .0, sound-append xs ys (a .1) b)
-
-sound-take : (n : ℕ) (cs : List Channel) → AllSound cs → AllSound (take n cs)
-sound-take zero cs a = tt
-sound-take (suc n) [] a = tt
-sound-take (suc n) (c ∷ cs) a = (a .0, sound-take n cs (a .1))
 
 pub paired-long : (xs ys : List Channel) → length (paired xs ys) ≡ min 8 (length xs + length ys)
 paired-long xs ys = length-take 8 (xs ++ ys) ∙ ap (min 8) (length-append xs ys)

@@ -19,7 +19,7 @@ pub struct Pair<A, B> {
 }
 
 impl<A: Bank, B: Bank> Pair<A, B> {
-    // Where a channel is.
+    // Which bank answers for a channel.
     fn locate(&self, channel: usize) -> Place
         ensures { λ r. ⌜ r ≡ placed (length (A·Bank .channels (now (self .entry) .first))) channel ⌝ }
     {
