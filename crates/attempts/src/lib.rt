@@ -16,7 +16,7 @@ fn rouse<B: Bank>(bank: &mut B, channel: usize, units: u32)
     bank.enter(channel);
 }
 
-// Writes a block. The law is that of attempts at this block.
+// Writes a block. A function of its own only to carry the proof of the retry law, so that `attempt` needs no proof file.
 fn write_block<B: Bank>(
     bank: &mut B,
     channel: usize,
@@ -31,8 +31,8 @@ fn write_block<B: Bank>(
     bank.write(channel, space, start, values)
 }
 
-// One attempt at a block: gives a channel a new supply, wakes it and writes. An answer says that the block is there, whatever
-// earlier attempts at the same block have left.
+// One attempt at a block: gives a channel a new supply, wakes it and writes. An answer says that the memory is what the whole block,
+// landed once before the first of the attempts at it, would have left, however many of them were torn.
 pub fn attempt<B: Bank>(
     bank: &mut B,
     channel: usize,
@@ -49,7 +49,7 @@ pub fn attempt<B: Bank>(
     write_block(bank, channel, space, start, values)
 }
 
-// Gives a channel a supply of one unit, wakes it and reads as many bytes of its memory as the buffer has.
+// Sets a channel's supply to one unit, wakes it and reads as many bytes of its memory as the buffer has.
 pub fn look<B: Bank>(
     bank: &mut B,
     channel: usize,

@@ -64,7 +64,7 @@ pub trait Bank {
         ensures answer { λ r. ⌜ r ≡ ask false (program-answered space start (length (now (values .entry)))) (channels (now (self .entry))) channel ⌝ }
         ensures after { λ _. ⌜ channels (now (self .exit)) ≡ alter (written space start (now (values .entry))) (channels (now (self .entry))) channel ⌝ };
 
-    // Sets bytes of flash to FF from the address `start` upward, a unit of supply for each, with the same ends as a write.
+    // Sets bytes of flash to FF from the address `start` upward, a unit of supply for each, and ends as a write does.
     fn erase(&mut self, channel: usize, start: usize, count: usize) -> bool
         ensures answer { λ r. ⌜ r ≡ ask false (program-answered Flash start count) (channels (now (self .entry))) channel ⌝ }
         ensures after { λ _. ⌜ channels (now (self .exit)) ≡ alter (erased start count) (channels (now (self .entry))) channel ⌝ };

@@ -36,7 +36,7 @@ pub fn land_block<L: Landing>(memory: &mut [u8], start: usize, values: &[u8])
     land_cells::<L>(memory, start, values, values.len().min(room));
 }
 
-// Blanks `count` bytes. Asked to blank n, of which the memory has only `count`, it blanks all that n asks for.
+// Blanks `count` bytes. Where n bytes were asked for and the memory has room for `count` of them, this is all that blanking n means.
 fn blank_cells(memory: &mut [u8], start: usize, count: usize)
     requires { ⌜ count ≤ length (now memory) - start ⌝ }
     ensures blanks { λ _. ⌜ ((n : ℕ) → count ≡ min n (length (now (memory .entry)) - start) → now (memory .exit) ≡ blanked start n (now (memory .entry))) ⌝ }

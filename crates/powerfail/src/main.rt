@@ -1,5 +1,5 @@
 // Shows what failing power leaves of a write. Each line of standard input names a memory, a supply and a block; the block is tried on
-// one built target of each mode, and each tells whether it answered and what it then holds.
+// one built target of each mode, and a line for each says whether it answered, whether it was awake, and what it then holds.
 use attempts::attempt;
 use attempts::look;
 use bank::Bank;

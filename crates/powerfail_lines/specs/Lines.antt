@@ -9,8 +9,8 @@ use Rattle.std.specs.Of.Vec.{vec-items}
 use Rattle.std.specs.Written.{decimal}
 use Rattle.std.specs.declared.option.Option.{Option}
 use Rattle.std.specs.declared.option.Option.the-variants.{Some, None}
-use Rattle.bank.specs.declared.Space.{Space}
-use Rattle.bank.specs.declared.Space.the-variants.{Flash, Eeprom}
+use Rattle.bank.specs.declared.space.Space.{Space}
+use Rattle.bank.specs.declared.space.Space.the-variants.{Flash, Eeprom}
 use Rattle.hex.specs.Hex.{byte-value, bytes-spelled, hex-bytes}
 use Rattle.powerfail_lines.specs.declared.request.Request.{Request}
 
@@ -36,7 +36,7 @@ all-parts (Some s) None b = None
 all-parts (Some s) (Some u) None = None
 all-parts (Some s) (Some u) (Some b) = Some (record { space = s; units = u; block = b })
 
--- What a line asks for: a letter, a blank, the supply as two digits, and the block, each byte as two digits after a blank.
+-- What a line asks for: a letter, a blank (32), the supply as two digits, and the block, each byte as two digits after a blank.
 abbrev pub requested : List ℕ → Option Asked
 requested line =
     cond (leb 4 (length line) && eqb (getD line 1 0) 32)
@@ -54,7 +54,7 @@ state-word true = codes "awake"
 state-word false = codes "asleep"
 
 -- What came of an attempt on a channel: its number, whether it was answered, whether the target was awake after it, and the bytes that
--- the memory then holds.
+-- the memory then holds at the block's place.
 abbrev pub outcome-line : ℕ → Bool → Bool → List ℕ → List ℕ
 outcome-line channel answered awake held =
     decimal channel ++ (codes " " ++ (answer-word answered ++ (codes " " ++ (state-word awake ++ hex-bytes held))))

@@ -6,7 +6,7 @@ use hex::HexBytesDisplay;
 use std::fmt;
 
 // What came of an attempt on a channel: whether it was answered, whether the target was awake after it, and the bytes that the memory
-// then holds.
+// then holds at the block's place, none where it has no such place.
 #[derive(Clone, Copy)]
 pub struct Outcome<'a> {
     pub channel: usize,
