@@ -1,4 +1,6 @@
 // Attempts to write a block into a target whose power may fail, and a look at what it then holds.
+#![tactic(auto)]
+
 ghost use Rattle.std.specs.Prelude.{◌≡◌, false, length};
 ghost use Rattle.attempts.specs.Attempts.{Retry, roused};
 ghost use Rattle.bank.specs.Channels.{alter, ask};

@@ -1,4 +1,6 @@
 // A bank of targets, as the interface sees it: 1 to 8 channels, each one motor controller.
+#![tactic(auto)]
+
 ghost use Rattle.std.specs.Prelude.{◌≡◌, true, false, List, length, Some, None};
 ghost use Rattle.bank.specs.Channels.{Channel, SoundBank, alter, ask};
 ghost use Rattle.bank.specs.Effects.{entered, erased, powered, program_answered, put_to_sleep, reached, read_into, supplied, written};

@@ -1,4 +1,6 @@
 // Worked cases of banks and targets. There is no code here but the tests.
+#![tactic(auto)]
+
 #[cfg(test)]
 mod tests {
     use attempts::{attempt, look};

@@ -1,4 +1,6 @@
 // The four targets that are built in, one of each mode, as they are when new.
+#![tactic(auto)]
+
 ghost use Rattle.std.specs.Prelude.{true, ◌≡◌};
 ghost use Rattle.bank.specs.Facts.{facts_of};
 ghost use Rattle.bank.specs.Sizes.{sizes_fit};

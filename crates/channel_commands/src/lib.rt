@@ -1,4 +1,6 @@
 // The commands that are about the session and its channels, not about what a memory holds.
+#![tactic(auto)]
+
 mod interface;
 mod selection;
 

@@ -1,4 +1,6 @@
 // CRC-16/XMODEM, the checksum of every frame: polynomial 0x1021, start 0x0000, highest bit first, no final inversion.
+#![tactic(auto)]
+
 ghost use Rattle.std.specs.Prelude.{◌≡◌, ℕ, List, ◌≢◌};
 ghost use Rattle.crc16.specs.Altered.{Altered};
 ghost use Rattle.byte_rows.specs.Bytes.{Bytes};

@@ -1,4 +1,6 @@
 // Flash memory: landing rules, landing a block, blanking a block.
+#![tactic(auto)]
+
 ghost use Rattle.std.specs.Prelude.{◌≡◌, ℕ, ◌-◌, ◌≤◌, min, length};
 ghost use Rattle.flash.specs.Blocks.{Exact, Retried, blank, blanked, landed};
 ghost use Rattle.flash.specs.Rules.{replacing};

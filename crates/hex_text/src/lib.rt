@@ -1,4 +1,6 @@
 // Bytes and addresses as hexadecimal text, and back.
+#![tactic(auto)]
+
 mod read;
 mod write;
 

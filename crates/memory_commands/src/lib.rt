@@ -1,4 +1,6 @@
 // The commands on the memories of the connected target: erase, read and write.
+#![tactic(auto)]
+
 mod erasing;
 mod ranges;
 mod reading;

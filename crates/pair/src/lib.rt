@@ -1,4 +1,6 @@
 // Two banks as one: the first's channels, then the second's, cut after the eighth.
+#![tactic(auto)]
+
 ghost use Rattle.std.specs.Prelude.{◌≡◌, length};
 ghost use Rattle.pair.specs.Places.{paired, placed};
 ghost use Rattle.pair.specs.Pairs.{paired_sound};

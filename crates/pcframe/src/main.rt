@@ -1,4 +1,6 @@
 // Packs commands and takes replies apart: answers the line that its arguments make, or else each line of standard input.
+#![tactic(auto)]
+
 use pcframe_lines::answer;
 use std::env;
 use std::io::{BufRead, BufReader};

@@ -1,4 +1,6 @@
 // What pcframe answers to a line: `p` packs a command, `u` takes a reply apart.
+#![tactic(auto)]
+
 mod acks;
 mod lines;
 

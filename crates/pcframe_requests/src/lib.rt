@@ -1,4 +1,6 @@
 // What a line of pcframe asks for.
+#![tactic(auto)]
+
 mod parser;
 mod request;
 

@@ -1,4 +1,6 @@
 // The power of a target: how many bytes it can still program, and whether it is awake.
+#![tactic(auto)]
+
 ghost use Rattle.std.specs.Prelude.{ltb, cond, false, ◌&&◌, ◌≡◌, min, ◌-◌, ◌<◌, ◌^◌};
 
 // Supply counts the bytes that a target can still program before its power fails. Without supply it is asleep. Written whole at

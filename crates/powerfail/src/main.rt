@@ -1,5 +1,7 @@
 // Shows what failing power leaves of a write. Each line of standard input names a memory, a supply and a block; the block is tried on
 // one built target of each mode, and a line for each says whether it answered, whether it was awake, and what it then holds.
+#![tactic(auto)]
+
 use attempts::{attempt, look};
 use bank::Bank;
 use built::{atmblb, atmsk, sic2, silblb};

@@ -1,4 +1,6 @@
 // The lines of powerfail: what is asked for, and what is answered.
+#![tactic(auto)]
+
 mod outcome;
 mod parser;
 mod request;

@@ -1,4 +1,6 @@
 // The session of the interface: what it remembers, and the rules of all commands.
+#![tactic(auto)]
+
 ghost use Rattle.std.specs.Prelude.{◌≡◌};
 ghost use Rattle.session.specs.Sessions.{start};
 

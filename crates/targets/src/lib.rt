@@ -1,4 +1,6 @@
 // Targets: motor controllers over any landing rule, each a bank of one channel.
+#![tactic(auto)]
+
 mod bank_of_one;
 mod building;
 mod memory;

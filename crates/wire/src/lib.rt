@@ -1,4 +1,6 @@
 // The frames of the 4-way interface: what a PC sends, what the interface answers, and both ends of each.
+#![tactic(auto)]
+
 mod ack;
 mod layout;
 mod message;

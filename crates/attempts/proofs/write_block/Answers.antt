@@ -5,5 +5,5 @@ pub returns : goal.returns
 returns g c = record {
   answer = c.write.ensures.answer;
   after = c.write.ensures.after;
-  retry = retry c.args.space c.args.start c.args.values.now (λ k. (c.type-inv.values k).fits);
+  retry = retry c.args.space c.args.start c.args.values.now (λ k. (c.type_inv.values k).fits);
 }

@@ -15,5 +15,5 @@ whole c = bytes_all _ _ c.loop-byte.byte-index c.args.bytes.now c.loop-byte-test
 pub returns : goal.returns
 returns c = record {
   value = whole c;
-  neighbours = λ ys bytes altered same. neighbours c.args.bytes.now ys (λ k. (c.type-inv.bytes k).fits) bytes altered (sym (whole c) ∙ same);
+  neighbours = λ ys bytes altered same. neighbours c.args.bytes.now ys (λ k. (c.type_inv.bytes k).fits) bytes altered (sym (whole c) ∙ same);
 }

@@ -20,7 +20,7 @@ returns g c =
     let start = c.args.start in
     let vs = c.args.values.now in
     let os = c.args.memory.now in
-    let bytes : Bytes vs = λ k. (c.type-inv.values k).fits in
+    let bytes : Bytes vs = λ k. (c.type_inv.values k).fits in
     let whole : c.loop-i.memory ≡ landed f start vs os = c.loop-i.invariant ∙ landed_enough f start vs os c.loop-i.i (λ k. omega arith) in
     record {
       lands = whole;

@@ -17,5 +17,5 @@ returns g c =
     record {
       after = after;
       long = front_long size os c.land-block.new.memory c.land-block.auto.memory c.requires.0;
-      bytes = λ b. subst Bytes (sym after) (landed_bytes f g.met.L.Landing.onbytes start vs (take size os) (λ k. (c.type-inv.values k).fits) b);
+      bytes = λ b. subst Bytes (sym after) (landed_bytes f g.met.L.Landing.onbytes start vs (take size os) (λ k. (c.type_inv.values k).fits) b);
     }

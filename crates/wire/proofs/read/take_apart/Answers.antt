@@ -6,17 +6,17 @@ use Rattle.wire.proofs.read.take_apart.Goals as goal
 
 pub returns-in-default : goal.returns-in-default
 returns-in-default c =
-    let bytes : Bytes c.args.bytes.now = λ k. (c.type-inv.bytes k).fits in
+    let bytes : Bytes c.args.bytes.now = λ k. (c.type_inv.bytes k).fits in
     record { value = search rules; commands = commands _ bytes; replies = replies _ bytes }
 
 pub returns-then-first-start : goal.returns-then-first-start
 returns-then-first-start c =
-    let bytes : Bytes c.args.bytes.now = λ k. (c.type-inv.bytes k).fits in
+    let bytes : Bytes c.args.bytes.now = λ k. (c.type_inv.bytes k).fits in
     record { value = search rules; commands = commands _ bytes; replies = replies _ bytes }
 
 pub returns : goal.returns
 returns c =
-    let bytes : Bytes c.args.bytes.now = λ k. (c.type-inv.bytes k).fits in
+    let bytes : Bytes c.args.bytes.now = λ k. (c.type_inv.bytes k).fits in
     record {
       value =
           fields_met c.args.start c.args.overhead c.count-of-count.result _ c.args.bytes.now _
