@@ -14,11 +14,11 @@ returns c =
     let start = c.args.start in
     let vs = blank c.args.count in
     let os = c.args.array.now in
-    let after : take size c.blank-block.new.memory ≡ blanked start c.args.count (take size os)
-    = ap (take size) c.blank-block.ensures.blanks
+    let after : take size c.blank_block.new.memory ≡ blanked start c.args.count (take size os)
+    = ap (take size) c.blank_block.ensures.blanks
     ∙ front_landed replacing size start vs os (omega (arith, c.requires.1, length-replicate {A = ℕ} c.args.count 255)) in
     record {
       after = after;
-      long = front_long size os c.blank-block.new.memory c.blank-block.auto.memory c.requires.0;
+      long = front_long size os c.blank_block.new.memory c.blank_block.auto.memory c.requires.0;
       bytes = λ b. subst Bytes (sym after) (landed_bytes replacing replacing_on_bytes start vs (take size os) (blank_bytes c.args.count) b);
     }

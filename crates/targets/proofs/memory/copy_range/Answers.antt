@@ -2,8 +2,8 @@ use Rattle.std.proofs.Common.{rules}
 use Rattle.targets.proofs.Fronts.{front_copy, front_room}
 use Rattle.targets.proofs.memory.copy_range.Goals as goal
 
-pub slice-bounds-copy-from-slice-end : goal.slice-bounds-copy-from-slice-end
-slice-bounds-copy-from-slice-end c = let room = front_room c.args.size c.args.array.now c.requires.0 in search (rules, room)
+pub slice_bounds-copy_from_slice-end : goal.slice_bounds-copy_from_slice-end
+slice_bounds-copy_from_slice-end c = let room = front_room c.args.size c.args.array.now c.requires.0 in search (rules, room)
 
 pub returns : goal.returns
 returns c =

@@ -12,13 +12,13 @@ returns c =
     let f = fields_of c.args.message in
     let extra = c.args.extra.now in
     let out = c.args.out.now in
-    let done = sym c.in-ok-len.was ∙ c.frame-len.ensures in
-    let buffer : c.append-crc.new.out ≡ frame start f extra ++ drop (length (frame start f extra)) out =
-    frame_written start f extra _ out _ _ _ _ c.header-of.ensures c.put.ensures c.put-2.ensures c.put-3.ensures c.append-crc.ensures in
+    let done = sym c.in_ok-len.was ∙ c.frame_len.ensures in
+    let buffer : c.append_crc.new.out ≡ frame start f extra ++ drop (length (frame start f extra)) out =
+    frame_written start f extra _ out _ _ _ _ c.header_of.ensures c.put.ensures c.put-2.ensures c.put-3.ensures c.append_crc.ensures in
     record {
       result = done;
       buffer = buffer;
       front = λ n e. (written start f extra _ _ (length out) n (sym done ∙ e) buffer).0;
       read_back = λ n e. written_read start f extra _ _ (length out) n (sym done ∙ e) buffer;
-      read-back-reply = λ n e. written_unpacked start f extra _ _ (length out) n (sym done ∙ e) buffer;
+      read_back_reply = λ n e. written_unpacked start f extra _ _ (length out) n (sym done ∙ e) buffer;
     }
