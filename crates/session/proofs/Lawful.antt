@@ -24,7 +24,7 @@ use Rattle.session.specs.declared.session.Session.{Session}
 use Rattle.session.specs.Doing.{bytes_at, connected_to, doing, exited, facts_at, fetched, initialised, is_sic2, mode_set, reset, size_in, start_of, stored, wiped}
 use Rattle.session.specs.Laws.{Fitting, Lawful, channel_at, refuses}
 use Rattle.session.specs.Outcomes.{Outcome, answered_by, bytes_asked, nothing, refused}
-use Rattle.session.specs.RuleTable.{channel_there, doing_if, fields_of_frame, rule_table, some_and}
+use Rattle.session.specs.RuleTable.{channel_there, checks_of, doing_if, fields_of_frame, rule_table, some_and}
 use Rattle.session.specs.Sessions.{connecting, in_mode, moved_to, selecting, start}
 use Rattle.session.proofs.Judging.{AllHold, judged_both}
 
@@ -102,7 +102,7 @@ mode_lawful k m s cs = record {
 
 reset_lawful : (k i : ℕ) (s : Session) (cs : List Channel) → i < length cs → After k s cs (reset i s cs)
 reset_lawful k i s cs l = record {
-  refused = λ h. absurd (answer_acts _ (i ∷ []) h);
+  refused = λ h. absurd (answer_acts (ask false powered cs i) (i ∷ []) h);
   fits = λ f. apart i s.mode s.cursor (alter put_to_sleep cs i) (omega (arith, length-alter put_to_sleep cs i));
   others = λ j n. inl (ask_other None Some put_to_sleep cs i j n);
 }
@@ -147,7 +147,7 @@ initialised_lawful k i (Some t) s cs l facts =
 
 wiped_lawful : (k from count : ℕ) (reply : List ℕ) (s : Session) (cs : List Channel) → After k s cs (wiped from count reply s cs)
 wiped_lawful k from count reply s cs = record {
-  refused = λ h. absurd (answer_acts _ reply h);
+  refused = λ h. absurd (answer_acts (ask false (program_answered Flash from count) cs s.channel) reply h);
   fits = kept (erased from count) (erased_facts from count) s cs s.cursor;
   others = λ j n. inl (ask_other None Some (erased from count) cs s.channel j n);
 }
@@ -198,7 +198,7 @@ pub lawful : (read : FrameRead) (s : Session) (cs : List Channel) → After (fie
 lawful read s cs =
     let f = fields_of_frame read in
     let k = f.command in
-    judged_both (After k s cs) _ (doing_if (made_by k f.param) f.address f.param s cs) s cs (λ a. unaltered k (Err a) s cs)
+    judged_both (After k s cs) (checks_of read s cs) (doing_if (made_by k f.param) f.address f.param s cs) s cs (λ a. unaltered k (Err a) s cs)
     (λ all. doing_lawful k (made_by k f.param) f.address f.param s cs (made_coded k f.param) all.1.1.1.0)
 
 -- a session at its start fits every bank

@@ -109,14 +109,12 @@ abbrev pub doing_if : Option Command → ℕ → List ℕ → Session → List C
 doing_if None address param s cs = refused ack.InvalidParam s cs
 doing_if (Some command) address param s cs = doing command address param s cs
 
--- The checks of a whole frame in their order, and what is done where all of them pass. The last place is in what is done: 30 on a
--- sleeper, 37 in another mode and no answer from the bank draw 0F.
-abbrev pub rule_table : FrameRead → Session → List Channel → Outcome
-rule_table read s cs =
+-- The checks of a whole frame, in their order.
+abbrev pub checks_of : FrameRead → Session → List Channel → List Check
+checks_of read s cs =
     let f = fields_of_frame read in
     let command = made_by f.command f.param in
     let target = facts_at cs s.channel in
-    judged (
     record { holds = crc_holds read; otherwise = ack.InvalidCrc }
     ∷ record { holds = valid f.command s.mode; otherwise = ack.InvalidCommand }
     ∷ record { holds = is_some command; otherwise = ack.InvalidParam }
@@ -124,8 +122,13 @@ rule_table read s cs =
     ∷ record { holds = some_and (λ k. connection_there k s) command; otherwise = ack.GeneralError }
     ∷ record { holds = some_and (λ k. range_there k f.address f.param s target) command; otherwise = ack.InvalidParam }
     ∷ []
-    )
-    (doing_if command f.address f.param s cs) s cs
+
+-- The checks of a whole frame, and what is done where all of them pass. The last place is in what is done: 30 on a sleeper, 37 in
+-- another mode and no answer from the bank draw 0F.
+abbrev pub rule_table : FrameRead → Session → List Channel → Outcome
+rule_table read s cs =
+    let f = fields_of_frame read in
+    judged (checks_of read s cs) (doing_if (made_by f.command f.param) f.address f.param s cs) s cs
 
 -- The table from its fourth place on, of a command that was decoded.
 abbrev pub performed : Command → ℕ → List ℕ → Session → List Channel → Outcome

@@ -13,8 +13,8 @@ page_few flash page e =
     let some = leb-true 1 (flash / page) (and_parts (leb 1 (flash / page)) _ rest.1).0 in
     omega (arith, mul-div-le flash page, mul-le-mul_left page some)
 
-pub overflow-mul-result : goal.overflow-mul-result
-overflow-mul-result c =
+pub overflow_mul-result : goal.overflow_mul-result
+overflow_mul-result c =
     let f = c.args.facts in
     let few = page_few f.flash_size f.page_size (and_parts (pages_fit f.flash_size f.page_size) _ f.fit).0 in
     let byte : c.from.result ≤ 255 = omega arith in

@@ -2,9 +2,9 @@ use Rattle.pcframe_requests.proofs.Asking.{request_laws}
 use Rattle.pcframe_requests.proofs.Texts.{keeps, keeps_none, trims}
 use Rattle.pcframe_requests.proofs.parser.trim.Goals as goal
 
-pub returns-in-default : goal.returns-in-default
-returns-in-default c = record {
-  value = keeps_none c.args.line.now c.in-default.ensures.cases;
+pub returns-in_default : goal.returns-in_default
+returns-in_default c = record {
+  value = keeps_none c.args.line.now c.in_default.ensures.cases;
   laws = request_laws c.args.line.now;
 }
 
