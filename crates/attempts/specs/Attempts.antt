@@ -1,6 +1,5 @@
 -- Writing a block with a new supply, again and again. Assumes nothing.
 use Rattle.std.specs.Prelude.{◌≡◌, ℕ, true, List, [], ◌∷◌, length}
-use Rattle.byte_rows.specs.Bytes.{Bytes}
 use Rattle.flash.specs.Blocks.{landed}
 use Rattle.bank.specs.declared.space.Space.{Space}
 use Rattle.bank.specs.Channels.{Channel, Sound}

@@ -6,7 +6,7 @@ use Rattle.flash.specs.Rules.{replacing}
 use Rattle.bank.specs.declared.space.Space.{Space}
 use Rattle.bank.specs.declared.space.Space.TheVariants.{Flash, Eeprom}
 use Rattle.bank.specs.Channels.{Channel}
-use Rattle.bank.specs.Effects.{entered, erased, powered, programmed, put_to_sleep, reached, rule_of, spent, with_memory, with_power, written}
+use Rattle.bank.specs.Effects.{entered, erased, powered, programmed, reached, rule_of, spent, with_memory, with_power, written}
 
 pub entered_facts : (c : Channel) → (entered c).facts ≡ c.facts
 entered_facts c = cond_both (powered c) (with_power c.supply true c) c (λ d. d.facts ≡ c.facts) (λ _. refl) (λ _. refl)

@@ -1,5 +1,5 @@
 -- Rows of bytes, put together and cut. Assumes nothing.
-use Rattle.std.proofs.Common.{ℕ, zero, suc, ◌+◌, ◌<◌, List, [], ◌∷◌, ◌++◌, get_or, take, drop, sym, subst, arith}
+use Rattle.std.proofs.Common.{ℕ, zero, suc, ◌+◌, ◌<◌, List, [], ◌∷◌, ◌++◌, take, drop, sym, subst, arith}
 use Rattle.std.proofs.lemmas.List.{get_or-drop}
 use Rattle.byte_rows.specs.Bytes.{Bytes}
 

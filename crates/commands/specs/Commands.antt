@@ -3,12 +3,10 @@ use Rattle.std.specs.Prelude.{ℕ, Bool, true, false, cond, ◌&&◌, ◌||◌, 
 use Rattle.std.specs.Option.{option_map}
 use Rattle.bank.specs.declared.mode.Mode.{Mode}
 use Rattle.bank.specs.declared.mode.Mode.TheVariants.{SiC2, SiLBLB, AtmBLB, AtmSK}
-use Rattle.bank.specs.declared.space.Space.{Space}
 use Rattle.bank.specs.declared.space.Space.TheVariants.{Flash, Eeprom}
 use Rattle.bank.specs.Modes.{mode_of}
 use Rattle.wire.specs.declared.ack.Ack.{Ack}
 use Rattle.wire.specs.declared.ack.Ack.TheVariants as ack
-use Rattle.wire.specs.Fields.{Fields}
 use Rattle.commands.specs.declared.command.Command.{Command}
 use Rattle.commands.specs.declared.command.Command.TheVariants.{TestAlive, ProtocolVersion, InterfaceName, InterfaceVersion, Exit, SetMode, Reset, InitFlash, EraseAll, ErasePage, Read, Write}
 

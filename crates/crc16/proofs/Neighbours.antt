@@ -1,8 +1,8 @@
 -- The neighbours law: one altered byte, or two neighbouring ones, alter the checksum. Assumes nothing.
-use Rattle.std.proofs.Common.{◌≡◌, ℕ, zero, suc, ◌+◌, ◌*◌, ◌/◌, ◌%◌, ◌^◌, ◌<◌, List, [], ◌∷◌, ◌++◌, length, get_or, sym, refl, ap, ◌∙◌, subst, ap₂, ⊎_elim, add-zero, mod-lt, div-add-mod', arith}
+use Rattle.std.proofs.Common.{◌≡◌, ℕ, zero, suc, ◌+◌, ◌*◌, ◌/◌, ◌%◌, ◌^◌, ◌<◌, List, [], ◌∷◌, length, get_or, sym, refl, ap, ◌∙◌, ap₂, add-zero, div-add-mod', arith}
 use native.Mathlib.Nat.{suc_inj}
-use lib.Bits.{bit_xor, xor_block, xor_lt, xor_mod, xor_self, xor_zero_r, xor_assoc, xor_comm}
-use Rattle.std.proofs.lemmas.List.{same_lists, ext_get_or}
+use lib.Bits.{bit_xor, xor_block, xor_lt, xor_mod, xor_self, xor_zero_r}
+use Rattle.std.proofs.lemmas.List.{ext_get_or}
 use Rattle.crc16.specs.Altered.{Altered}
 use Rattle.byte_rows.specs.Bytes.{Bytes}
 use Rattle.crc16.specs.Crc.{shifts, crc_step, crc_from, crc_of}

@@ -1,9 +1,9 @@
 -- The register's laws: shifting is linear over exclusive or, and eight shifts lose nothing. Assumes nothing.
-use Rattle.std.proofs.Common.{◌≡◌, ℕ, zero, suc, ◌+◌, ◌*◌, ◌/◌, ◌%◌, ◌^◌, ◌<◌, ◌≤◌, Bool, true, false, cond, T, eqb, leb, List, [], ◌∷◌, length, get_or, sym, refl, ap, ◌∙◌, subst, ap₂, ⊎_elim, add-zero, mod-lt, div-add-mod', zero-add, arith, lit<, eqb→eq}
-use lib.Bits.{bit_xor, xor_block, xor_lt, xor_mod, xor_shifted, xor_zero_r, xor_self, xor_assoc, xor_comm}
+use Rattle.std.proofs.Common.{◌≡◌, ℕ, zero, suc, ◌+◌, ◌*◌, ◌/◌, ◌%◌, ◌^◌, ◌<◌, Bool, true, cond, T, eqb, leb, List, [], ◌∷◌, get_or, sym, refl, ap, ◌∙◌, subst, ap₂, add-zero, div-add-mod', zero-add, arith, eqb→eq}
+use lib.Bits.{bit_xor, xor_block, xor_lt, xor_shifted, xor_zero_r, xor_self, xor_assoc, xor_comm}
 use Rattle.std.proofs.lemmas.Bool.{cond-true, cond-false, le-leb, lt-leb, eq-eqb}
-use Rattle.crc16.specs.Crc.{shift, shifts, crc_step}
-use Rattle.crc16.proofs.Below.{below, at}
+use Rattle.crc16.specs.Crc.{shift, shifts}
+use Rattle.crc16.proofs.Below.{at}
 
 -- ---- exclusive or
 

@@ -1,5 +1,5 @@
 -- Bytes with their checksum behind them, high byte first, have the checksum 0. Assumes nothing.
-use Rattle.std.proofs.Common.{◌≡◌, ℕ, zero, suc, ◌+◌, ◌*◌, ◌/◌, ◌%◌, ◌^◌, ◌<◌, List, [], ◌∷◌, ◌++◌, sym, refl, ap, ◌∙◌, ap₂, add-zero, div-add-mod', arith}
+use Rattle.std.proofs.Common.{◌≡◌, ℕ, ◌+◌, ◌*◌, ◌/◌, ◌%◌, ◌^◌, ◌<◌, List, [], ◌∷◌, ◌++◌, sym, refl, ap, ◌∙◌, ap₂, add-zero, div-add-mod', arith}
 use lib.Bits.{bit_xor, xor_block, xor_self, xor_zero_r}
 use Rattle.byte_rows.specs.Bytes.{Bytes}
 use Rattle.crc16.specs.Crc.{shifts, crc_step, crc_from, crc_of}

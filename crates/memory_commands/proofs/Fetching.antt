@@ -1,5 +1,5 @@
 -- What a read leaves in its buffer. Assumes nothing.
-use Rattle.std.proofs.Common.{◌≡◌, ℕ, zero, suc, Bool, false, cond, List, [], ◌∷◌, ◌++◌, length, take, sym, refl, ap, ◌∙◌, ap₂}
+use Rattle.std.proofs.Common.{◌≡◌, ℕ, zero, suc, Bool, false, cond, List, [], ◌∷◌, ◌++◌, length, take, sym, refl, ◌∙◌, ap₂}
 use Rattle.std.proofs.lemmas.List.{take_at}
 use Rattle.bank.specs.declared.space.Space.{Space}
 use Rattle.bank.specs.Channels.{Channel, ask}

@@ -1,5 +1,5 @@
 -- Which lines ask for what. Assumes nothing.
-use Rattle.std.proofs.Common.{◌≡◌, ℕ, ◌-◌, ◌/◌, ◌%◌, ◌<◌, true, cond, ◌&&◌, eqb, leb, List, [], ◌∷◌, ◌++◌, length, get_or, Some, None, refl, ap, ◌∙◌, ap₂, div-add-mod', arith}
+use Rattle.std.proofs.Common.{◌≡◌, ℕ, ◌-◌, ◌/◌, ◌%◌, ◌<◌, true, ◌&&◌, eqb, leb, List, ◌∷◌, ◌++◌, length, get_or, Some, None, refl, ap, ◌∙◌, ap₂, div-add-mod', arith}
 use Rattle.std.proofs.lemmas.Bool.{and_from, cond-false, cond-true, le-leb, ne_eqb}
 use Rattle.byte_rows.specs.Bytes.{Bytes}
 use Rattle.hex_text.specs.Hex.{byte_value, hex_address, hex_byte, hex_bytes, hex_digit}

@@ -1,5 +1,5 @@
 -- The checks of a table, gone through. Assumes nothing.
-use Rattle.std.proofs.Common.{◌≡◌, true, false, cond, List, [], ◌∷◌}
+use Rattle.std.proofs.Common.{◌≡◌, true, List, [], ◌∷◌}
 use Rattle.std.proofs.lemmas.Bool.{cond_both}
 use Rattle.bank.specs.Channels.{Channel}
 use Rattle.wire.specs.declared.ack.Ack.{Ack}

@@ -1,10 +1,9 @@
 -- Every frame is lawful. Assumes nothing.
-use Rattle.std.proofs.Common.{◌≡◌, ℕ, ◌+◌, ◌<◌, ◌≤◌, Bool, true, false, cond, not, ◌||◌, eqb, ltb, ◌⊎◌, List, [], ◌∷◌, ◌++◌, map, length, is_some, Some, None, Ok, Err, Option, Result, sym, refl, ap, ◌∙◌, subst, inl, inr, arith}
+use Rattle.std.proofs.Common.{◌≡◌, ℕ, ◌+◌, ◌<◌, ◌≤◌, Bool, true, false, cond, eqb, ◌⊎◌, List, [], ◌∷◌, ◌++◌, map, length, Some, None, Ok, Err, Option, Result, refl, ap, ◌∙◌, inl, inr, arith}
 use Rattle.std.proofs.lemmas.Bool.{cond_both, eqb-true, false≢true, ltb-true}
 use Rattle.std.specs.Option.{option_map}
 use Rattle.bank.specs.declared.mode.Mode.{Mode}
 use Rattle.bank.specs.declared.mode.Mode.TheVariants.{SiC2, SiLBLB, AtmBLB, AtmSK}
-use Rattle.bank.specs.declared.space.Space.{Space}
 use Rattle.bank.specs.declared.space.Space.TheVariants.{Flash}
 use Rattle.bank.specs.Channels.{Channel, alter, ask}
 use Rattle.bank.specs.Effects.{entered, erased, powered, program_answered, put_to_sleep, reached, written}
@@ -13,7 +12,7 @@ use Rattle.bank.specs.Modes.{mode_number}
 use Rattle.bank.proofs.Channels.{ask_kept, ask_other, at_map, length-alter, length-map}
 use Rattle.bank.proofs.Effects.{entered_facts, erased_facts, written_facts}
 use Rattle.commands.proofs.Codes.{Coded, made_coded}
-use Rattle.commands.specs.Commands.{made_by, valid}
+use Rattle.commands.specs.Commands.{made_by}
 use Rattle.commands.specs.declared.command.Command.{Command}
 use Rattle.commands.specs.declared.command.Command.TheVariants.{TestAlive, ProtocolVersion, InterfaceName, InterfaceVersion, Exit, SetMode, Reset, InitFlash, EraseAll, ErasePage, Read, Write}
 use Rattle.wire.specs.Codes.{ack_code}
@@ -21,12 +20,12 @@ use Rattle.wire.specs.Reading.{FrameRead}
 use Rattle.wire.specs.declared.ack.Ack.{Ack}
 use Rattle.wire.specs.declared.ack.Ack.TheVariants as ack
 use Rattle.session.specs.declared.session.Session.{Session}
-use Rattle.session.specs.Doing.{bytes_at, connected_to, doing, exited, facts_at, fetched, initialised, is_sic2, mode_set, reset, size_in, start_of, stored, wiped}
+use Rattle.session.specs.Doing.{doing, exited, facts_at, initialised, is_sic2, mode_set, reset, start_of, wiped}
 use Rattle.session.specs.Laws.{Fitting, Lawful, channel_at, refuses}
 use Rattle.session.specs.Outcomes.{Outcome, answered_by, bytes_asked, nothing, refused}
 use Rattle.session.specs.RuleTable.{channel_there, checks_of, doing_if, fields_of_frame, rule_table, some_and}
-use Rattle.session.specs.Sessions.{connecting, in_mode, moved_to, selecting, start}
-use Rattle.session.proofs.Judging.{AllHold, judged_both}
+use Rattle.session.specs.Sessions.{connecting, moved_to, selecting, start}
+use Rattle.session.proofs.Judging.{judged_both}
 
 -- the ACK byte of an answer
 abbrev pub code_of : Result (List ℕ) Ack → ℕ

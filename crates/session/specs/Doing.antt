@@ -1,9 +1,9 @@
 -- What each command does once all checks before the last have passed. Assumes nothing.
-use Rattle.std.specs.Prelude.{ℕ, ◌+◌, ◌*◌, Bool, true, false, cond, not, ◌&&◌, ◌||◌, List, [], ◌∷◌, ◌++◌, map, length, take, drop, Some, None, Ok, Err, Option, ◌==◌}
+use Rattle.std.specs.Prelude.{ℕ, ◌+◌, ◌*◌, Bool, true, false, cond, not, ◌&&◌, ◌||◌, List, [], ◌∷◌, ◌++◌, map, length, take, drop, Some, None, Ok, Option, ◌==◌}
 use Rattle.bank.specs.declared.mode.Mode.{Mode}
 use Rattle.bank.specs.declared.mode.Mode.TheVariants.{SiC2, SiLBLB, AtmBLB, AtmSK}
 use Rattle.bank.specs.declared.space.Space.{Space}
-use Rattle.bank.specs.declared.space.Space.TheVariants.{Flash, Eeprom}
+use Rattle.bank.specs.declared.space.Space.TheVariants.{Flash}
 use Rattle.bank.specs.Channels.{Channel, alter, ask}
 use Rattle.bank.specs.Effects.{entered, erased, memory, powered, program_answered, put_to_sleep, reached, written}
 use Rattle.bank.specs.Facts.{TargetFacts}

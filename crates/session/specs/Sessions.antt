@@ -1,5 +1,5 @@
 -- What the session remembers, and how it changes. Assumes nothing.
-use Rattle.std.specs.Prelude.{ℕ, Bool, true, false}
+use Rattle.std.specs.Prelude.{ℕ, true, false}
 use Rattle.bank.specs.declared.mode.Mode.{Mode}
 use Rattle.bank.specs.declared.mode.Mode.TheVariants.{SiC2}
 use Rattle.session.specs.declared.session.Session.{Session}

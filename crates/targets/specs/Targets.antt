@@ -1,5 +1,5 @@
 -- Targets as channels. Assumes nothing.
-use Rattle.std.specs.Prelude.{ℕ, false, List, take}
+use Rattle.std.specs.Prelude.{ℕ, false, take}
 use Rattle.bank.specs.Channels.{Channel}
 use Rattle.bank.specs.Facts.{TargetFacts, facts_of}
 use Rattle.flash.specs.Blocks.{blank}

@@ -2,7 +2,6 @@
 use Rattle.std.proofs.Common.{◌≡◌, ℕ, zero, suc, ◌+◌, ◌-◌, ◌/◌, ◌%◌, ◌<◌, ◌≤◌, Bool, true, false, cond, ◌&&◌, eqb, leb, List, [], ◌∷◌, ◌++◌, length, get_or, take, drop, Some, None, Ok, Err, sym, refl, ap, ◌∙◌, subst, ap₂, ⊎_elim, arith}
 use Rattle.std.proofs.lemmas.List.{append_assoc, get_or_at, length-append, nil_from_length, take_at}
 use Rattle.std.proofs.lemmas.Bool.{and_parts, cases_Bool, cond_both, eqb-false, leb-true}
-use Rattle.crc16.specs.Altered.{Altered}
 use Rattle.byte_rows.specs.Bytes.{Bytes}
 use Rattle.crc16.specs.Crc.{crc_of}
 use Rattle.byte_rows.proofs.Bytes.{bytes_append, bytes_cons, bytes_drop, bytes_none, bytes_take}
@@ -10,12 +9,12 @@ use Rattle.crc16.proofs.Neighbours.{from_below, neighbours}
 use Rattle.crc16.proofs.Residue.{residue}
 use Rattle.wire.specs.declared.refusal.Refusal.TheVariants.{NotAReply, ParamCount, ShortBuffer, WrongCrc}
 use Rattle.wire.specs.Fields.{ReplyFields, CountFits, Fields, Fit}
-use Rattle.wire.specs.Frames.{big_endian, command_frame, frame, header, param_count, param_len, reply_frame, with_crc}
+use Rattle.wire.specs.Frames.{big_endian, command_frame, frame, header, param_count, param_len, reply_frame}
 use Rattle.wire.specs.Laws.{FitReply, Noisy, Replies, Commands}
 use Rattle.wire.specs.Packing.{write_result}
-use Rattle.wire.specs.Reading.{FrameRead, intact, damaged, count_in, crc_right, fields_in, command_in, frame_in, number_at, shaped, unpacked}
+use Rattle.wire.specs.Reading.{intact, damaged, count_in, crc_right, fields_in, command_in, frame_in, number_at, shaped, unpacked}
 use Rattle.wire.proofs.Shapes.{shape_met, shape_parts}
-use Rattle.wire.proofs.Trips.{Whole, Framed, there, back, extra_in}
+use Rattle.wire.proofs.Trips.{there, back, extra_in}
 
 -- ---- noise
 

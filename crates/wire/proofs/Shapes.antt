@@ -1,9 +1,9 @@
 -- Bytes that have the shape of a frame. Assumes nothing.
-use Rattle.std.proofs.Common.{◌≡◌, ℕ, ◌+◌, ◌-◌, ◌≤◌, Bool, true, false, cond, ◌&&◌, eqb, leb, List, length, get_or, take, drop, Some, sym, refl, ap, ◌∙◌, arith}
+use Rattle.std.proofs.Common.{◌≡◌, ℕ, ◌+◌, ◌-◌, ◌≤◌, true, eqb, leb, List, length, get_or, take, drop, Some, sym, ap, ◌∙◌, arith}
 use Rattle.std.proofs.lemmas.List.{take_rest}
 use Rattle.std.proofs.lemmas.Bool.{and_from, and_parts, cond_both, cond-true, eq-eqb, eqb-false, eqb-true, le-leb}
 use Rattle.wire.specs.Frames.{param_count}
-use Rattle.wire.specs.Reading.{count_in, number_at, shaped, shaped_fields, fields_in}
+use Rattle.wire.specs.Reading.{count_in, number_at, shaped, shaped_fields}
 
 -- PARAM_LEN announces at least one byte
 pub count_some : (len : ℕ) → 1 ≤ param_count len

@@ -1,7 +1,7 @@
 use Rattle.std.proofs.Common.{ap, ◌∙◌, add-one, arith}
 use Rattle.bank.specs.Channels.{alter}
 use Rattle.bank.specs.Effects.{put_to_sleep}
-use Rattle.bank.proofs.Channels.{front_all, front_altered, front_more}
+use Rattle.bank.proofs.Channels.{front_all, front_more}
 use Rattle.channel_commands.proofs.interface.sleep_all.Goals as goal
 
 pub loop-channel-preserved : goal.loop-channel-preserved

@@ -1,4 +1,4 @@
-use Rattle.std.proofs.Common.{◌≡◌, ℕ, ◌*◌, ◌/◌, ◌%◌, ◌≤◌, true, eqb, leb, mul-le-mul, mul-le-mul_left, arith}
+use Rattle.std.proofs.Common.{◌≡◌, ℕ, ◌/◌, ◌%◌, ◌≤◌, true, eqb, leb, mul-le-mul, mul-le-mul_left, arith}
 use native.Mathlib.Nat.{mul-div-le}
 use mir.Facts.{Fits-below}
 use Rattle.std.proofs.lemmas.Bool.{and_parts, leb-true}

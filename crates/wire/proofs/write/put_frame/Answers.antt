@@ -1,7 +1,6 @@
-use Rattle.std.proofs.Common.{◌≡◌, ◌++◌, length, drop, Ok, sym, ◌∙◌}
+use Rattle.std.proofs.Common.{◌≡◌, ◌++◌, length, drop, sym, ◌∙◌}
 use Rattle.wire.specs.Fields.{fields_of}
 use Rattle.wire.specs.Frames.{frame}
-use Rattle.wire.specs.Packing.{write_result}
 use Rattle.wire.proofs.Laws.{written, written_read, written_unpacked}
 use Rattle.wire.proofs.Writing.{frame_written}
 use Rattle.wire.proofs.write.put_frame.Goals as goal
