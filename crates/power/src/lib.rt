@@ -1,7 +1,7 @@
 // The power of a target: how many bytes it can still program, and whether it is awake.
 #![tactic(auto)]
 
-ghost use Rattle.std.specs.Prelude.{ltb, cond, false, ◌&&◌, ◌≡◌, min, ◌-◌, ◌<◌, ◌^◌};
+ghost use Rattle.std.specs.Prelude.{nat_lt, cond, false, ◌&&◌, ◌≡◌, min, ◌-◌, ◌<◌, ◌^◌};
 
 // Supply counts the bytes that a target can still program before its power fails. Without supply it is asleep. Written whole at
 // each change.
@@ -27,9 +27,9 @@ impl Power {
 
     // Wakes or puts to sleep, if there is supply, and tells whether there is.
     pub fn set_awake(&mut self, awake: bool) -> bool
-        ensures answer { result ≡ ltb 0 self.old.supply }
+        ensures answer { result ≡ nat_lt 0 self.old.supply }
         ensures supply { self.new.supply ≡ self.old.supply }
-        ensures awake { self.new.awake ≡ cond (ltb 0 self.old.supply) awake self.old.awake }
+        ensures awake { self.new.awake ≡ cond (nat_lt 0 self.old.supply) awake self.old.awake }
     {
         let supply = self.supply;
         if supply == 0 {
@@ -44,7 +44,7 @@ impl Power {
     pub fn spend(&mut self, count: usize) -> usize
         ensures answer { result ≡ min count self.old.supply }
         ensures supply { self.new.supply ≡ self.old.supply - count }
-        ensures awake { self.new.awake ≡ (self.old.awake && ltb 0 (self.old.supply - count)) }
+        ensures awake { self.new.awake ≡ (self.old.awake && nat_lt 0 (self.old.supply - count)) }
     {
         let units = count.min(self.supply as usize);
         let supply = self.supply - units as u32;
