@@ -3,7 +3,7 @@
 
 ghost use Rattle.std.specs.Prelude.{◌≡◌, length};
 ghost use Rattle.pair.specs.Places.{paired, placed};
-ghost use Rattle.pair.specs.Pairs.{paired_sound};
+ghost use Rattle.pair.specs.PlacesLemmas.{paired_sound};
 
 mod place;
 

@@ -1,5 +1,5 @@
 use Rattle.std.proofs.Common.{rules}
-use Rattle.pair.specs.Pairs.{first_told, second_told}
+use Rattle.pair.proofs.Pairs.{first_told, second_told}
 use Rattle.pair.proofs.PairBank.facts.Goals as goal
 
 pub returns-in-First : goal.returns-in-First

@@ -1,5 +1,5 @@
 use Rattle.std.proofs.Common.{rules}
-use Rattle.pair.specs.Pairs.{first_done, first_told, second_done, second_told}
+use Rattle.pair.proofs.Pairs.{first_done, first_told, second_done, second_told}
 use Rattle.pair.proofs.PairBank.sleep.Goals as goal
 
 pub returns-in-First : goal.returns-in-First

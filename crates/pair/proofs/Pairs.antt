@@ -1,10 +1,8 @@
 -- A channel of a pair is the channel of one of its banks. Assumes nothing.
-use Rattle.std.specs.Prelude.{◌≡◌, ℕ, ◌+◌, ◌-◌, ◌<◌, ◌≤◌, min, cond, List, ◌++◌, length, take, nat_le, nat_lt}
-use Rattle.std.proofs.Common.{sym, ap, ◌∙◌, arith}
-use Rattle.std.proofs.lemmas.List.{length-append, length-take}
+use Rattle.std.proofs.Common.{◌≡◌, ℕ, ◌-◌, ◌<◌, ◌≤◌, cond, List, ◌++◌, length, take, nat_le, nat_lt, sym, ap, ◌∙◌}
 use Rattle.std.proofs.lemmas.Bool.{cond_both, leb-true, leb-false, ltb-true, ltb-false}
-use Rattle.bank.specs.Channels.{Channel, SoundBank, alter, ask}
-use Rattle.bank.proofs.Channels.{alter_first, alter_front, alter_past, alter_second, ask_first, ask_front, ask_past, ask_second, sound_append, sound_take}
+use Rattle.bank.specs.Channels.{Channel, alter, ask}
+use Rattle.bank.proofs.Channels.{alter_first, alter_front, alter_past, alter_second, ask_first, ask_front, ask_past, ask_second}
 use Rattle.pair.specs.Places.{paired, placed}
 use Rattle.pair.specs.declared.place.Place.{Place}
 use Rattle.pair.specs.declared.place.Place.TheVariants.{First, Second, Outside}
@@ -48,18 +46,6 @@ altered h xs ys i p e =
     (λ few l. alter_front h (xs ++ ys) 8 i ∙ ap (take 8) (alter_first h xs ys i l))
     (λ few l. alter_front h (xs ++ ys) 8 i ∙ ap (take 8) (alter_second h xs ys i l))
     ∙ ap (alter_at h xs ys) (sym e)
-
--- ---- soundness
-
-pub paired_long : (xs ys : List Channel) → length (paired xs ys) ≡ min 8 (length xs + length ys)
-paired_long xs ys = length-take 8 (xs ++ ys) ∙ ap (min 8) (length-append xs ys)
-
-pub paired_sound : (xs ys : List Channel) → SoundBank xs → SoundBank ys → SoundBank (paired xs ys)
-paired_sound xs ys a b = record {
-  not_empty = omega (arith, a.not_empty, paired_long xs ys);
-  at_most = omega (arith, paired_long xs ys);
-  all = sound_take 8 (xs ++ ys) (sound_append xs ys a.all b.all);
-}
 
 -- ---- the answers of the pair's two arms
 
