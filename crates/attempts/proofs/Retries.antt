@@ -6,7 +6,7 @@ use Rattle.byte_rows.specs.Bytes.{Bytes}
 use Rattle.flash.specs.Blocks.{landed, torn_tries}
 use Rattle.flash.specs.Rules.{Idempotent, OnBytes}
 use Rattle.flash.proofs.Blocks.{retried}
-use Rattle.flash.specs.RulesLemmas.{replacing_idempotent, replacing_on_bytes}
+use Rattle.flash.proofs.Rules.{replacing_idempotent, replacing_on_bytes}
 use Rattle.bank.specs.declared.space.Space.{Space}
 use Rattle.bank.specs.declared.space.Space.TheVariants.{Flash, Eeprom}
 use Rattle.bank.specs.Channels.{Channel, Sound}

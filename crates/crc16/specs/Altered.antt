@@ -6,5 +6,5 @@ use Rattle.std.specs.Prelude.{◌≡◌, ℕ, ◌+◌, List, length, ◌≢◌, 
 pub record Altered (xs ys : List ℕ) : Type 0 where
   pub as_long : length xs ≡ length ys
   pub place : ℕ
-  pub elsewhere : (k : ℕ) → (k ≢ place) → (k ≢ place + 1) → slice_index xs k ≡ slice_index ys k
-  pub unlike : xs ≡ ys → ⊥
+  pub elsewhere : (k : ℕ) → k ≢ place → k ≢ place + 1 → slice_index xs k ≡ slice_index ys k
+  pub unlike : xs ≢ ys

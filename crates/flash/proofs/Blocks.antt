@@ -5,7 +5,7 @@ use Rattle.std.proofs.lemmas.List.{get_or-append_right, length-drop, length-repl
 use Rattle.byte_rows.specs.Bytes.{Bytes}
 use Rattle.byte_rows.proofs.Bytes.{bytes_none, bytes_cons, bytes_append, bytes_take, bytes_drop}
 use Rattle.flash.specs.Rules.{replacing, OnBytes, OnBlank, Idempotent}
-use Rattle.flash.specs.RulesLemmas.{replacing_idempotent, replacing_on_bytes}
+use Rattle.flash.proofs.Rules.{replacing_idempotent, replacing_on_bytes}
 use Rattle.flash.specs.Blocks.{blank, blanked, land_all, landed, torn_tries}
 
 -- ---- one byte more

@@ -1,11 +1,11 @@
--- Both rules keep the laws. Assumes nothing.
+-- Clearing keeps the laws: the laws of its impl cite this. Assumes nothing.
 use Rattle.std.specs.Prelude.{◌≡◌, ℕ, ◌+◌, ◌*◌, ◌/◌, ◌%◌, ◌≤◌, min, bit_and, refl}
 use Rattle.std.proofs.Common.{sym, ap, ap₂, ◌∙◌, arith}
 use Rattle.std.proofs.Math.Nat.{min-eq_left, min-le_right}
 use Rattle.std.proofs.Math.Arith.{bin_ind}
 use Rattle.std.specs.Int.Bits.{and_step}
 use Rattle.std.proofs.lemmas.Nat.{and_mask, and_comm, and_le_l}
-use Rattle.flash.specs.Rules.{Idempotent, OnBlank, OnBytes, clearing, replacing}
+use Rattle.flash.specs.Rules.{Idempotent, OnBlank, OnBytes, clearing}
 
 pub clearing_on_bytes : OnBytes clearing
 clearing_on_bytes o v h k = omega (arith, and_le_l o v)
@@ -28,9 +28,3 @@ and_again =
 
 pub clearing_idempotent : Idempotent clearing
 clearing_idempotent o v h k = and_again o v
-
-pub replacing_on_bytes : OnBytes replacing
-replacing_on_bytes o v h k = k
-
-pub replacing_idempotent : Idempotent replacing
-replacing_idempotent o v h k = refl

@@ -18,7 +18,8 @@ pub(crate) fn is_inside(size: usize, start: usize, count: usize) -> bool
 
 // Copies the bytes from the address `start` on, as many as the buffer has.
 pub(crate) fn copy_range(array: &[u8], size: usize, start: usize, buffer: &mut [u8])
-    requires { (length (take size array.now) ≡ size) × (start + length buffer.old ≤ size) }
+    requires long { length (take size array.now) ≡ size }
+    requires within { start + length buffer.old ≤ size }
     ensures { buffer.new ≡ take (length buffer.old) (drop start (take size array.now)) }
 {
     buffer.copy_from_slice(&array[start..start + buffer.len()]);
@@ -39,7 +40,8 @@ fn spend(power: &mut Power, count: usize) -> usize
 
 // Lands the values.
 fn land_within<L: Landing>(array: &mut [u8], size: usize, start: usize, values: &[u8])
-    requires { (length (take size array.old) ≡ size) × (start + length values.now ≤ size) }
+    requires long { length (take size array.old) ≡ size }
+    requires within { start + length values.now ≤ size }
     ensures after { take size array.new ≡ landed L.Landing.rule start values.now (take size array.old) }
     ensures long { length (take size array.new) ≡ size }
     ensures bytes { Bytes (take size array.old) → Bytes (take size array.new) }
@@ -49,7 +51,8 @@ fn land_within<L: Landing>(array: &mut [u8], size: usize, start: usize, values: 
 
 // Blanks `count` bytes.
 fn blank_within(array: &mut [u8], size: usize, start: usize, count: usize)
-    requires { (length (take size array.old) ≡ size) × (start + count ≤ size) }
+    requires long { length (take size array.old) ≡ size }
+    requires within { start + count ≤ size }
     ensures after { take size array.new ≡ blanked start count (take size array.old) }
     ensures long { length (take size array.new) ≡ size }
     ensures bytes { Bytes (take size array.old) → Bytes (take size array.new) }
@@ -65,7 +68,8 @@ pub(crate) fn program<L: Landing>(
     start: usize,
     values: &[u8],
 ) -> bool
-    requires { (length (take size array.old) ≡ size) × (start + length values.now ≤ size) }
+    requires long { length (take size array.old) ≡ size }
+    requires within { start + length values.now ≤ size }
     ensures answer { result ≡ nat_le (length values.now) power.old.supply }
     ensures after { take size array.new ≡ landed L.Landing.rule start (take power.old.supply values.now) (take size array.old) }
     ensures long { length (take size array.new) ≡ size }
@@ -86,7 +90,8 @@ pub(crate) fn erase(
     start: usize,
     count: usize,
 ) -> bool
-    requires { (length (take size array.old) ≡ size) × (start + count ≤ size) }
+    requires long { length (take size array.old) ≡ size }
+    requires within { start + count ≤ size }
     ensures answer { result ≡ nat_le count power.old.supply }
     ensures after { take size array.new ≡ landed replacing start (take power.old.supply (blank count)) (take size array.old) }
     ensures long { length (take size array.new) ≡ size }

@@ -1,5 +1,5 @@
 -- What the formats promise of any bytes. Assumes nothing.
-use Rattle.std.specs.Prelude.{◌≡◌, ℕ, ◌<◌, List, Some, Ok, Err, slice_index, slice_index_or}
+use Rattle.std.specs.Prelude.{◌≡◌, ℕ, ◌<◌, List, Some, Ok, Err, slice_index}
 use Rattle.crc16.specs.Altered.{Altered}
 use Rattle.wire.specs.declared.refusal.Refusal.TheVariants.{WrongCrc}
 use Rattle.wire.specs.Fields.{ReplyFields, Fields, Fit}
@@ -15,8 +15,8 @@ pub record FitReply (a : ReplyFields) : Type 0 where
 -- first byte, or PARAM_LEN, the fifth.
 pub record Noisy (sent bs : List ℕ) : Type 0 where
   pub altered : Altered sent bs
-  pub start : slice_index_or bs 0 0 ≡ slice_index sent 0
-  pub len : slice_index_or bs 4 0 ≡ slice_index sent 4
+  pub start : slice_index bs 0 ≡ slice_index sent 0
+  pub len : slice_index bs 4 ≡ slice_index sent 4
 
 -- Of bytes that reach the PC: the bytes of a reply unpack to exactly that reply; nothing but the bytes of a reply
 -- unpacks; a noisy reply is refused for its CRC.

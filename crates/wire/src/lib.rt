@@ -19,7 +19,6 @@ pub use write::{pack, write_reply};
 #[cfg(test)]
 mod tests {
     use super::*;
-    use std::test::Fail;
 
     const TEST_ALIVE: Message<'static> = Message {
         command: 0x30,
@@ -48,21 +47,15 @@ mod tests {
 
     // No parameter comes before the short buffer.
     #[test]
-    fn no_parameter(rt: HostRuntime) -> Result<(), Fail> {
+    fn no_parameter(rt: HostRuntime) {
         let none = Message {
             command: 0x30,
             address: 0x0000,
             param: &[],
         };
         match pack(none, &mut [0xAA; 1]) {
-            Ok(_) => {
-                assert!(rt; false);
-                Ok(())
-            },
-            Err(refusal) => {
-                assert_eq!(rt; refusal.number(), 25);
-                Ok(())
-            },
+            Ok(_) => assert!(rt; false),
+            Err(refusal) => assert_eq!(rt; refusal.number(), 25),
         }
     }
 
@@ -84,7 +77,7 @@ mod tests {
 
     // PARAM_LEN 00 at both ends: 263 bytes of a command, 264 of a reply.
     #[test]
-    fn longest_frames(rt: HostRuntime) -> Result<(), Fail> {
+    fn longest_frames(rt: HostRuntime) {
         let message = Message {
             command: 0x3B,
             address: 0x1FC0,
@@ -97,14 +90,8 @@ mod tests {
         let mut reply = [0; 264];
         assert!(rt; write_reply(message, Ack::GeneralError, &mut reply).is_ok());
         match unpack(&reply) {
-            Ok(taken) => {
-                assert!(rt; taken.ack == 0x0F && taken.message.param.len() == 256);
-                Ok(())
-            },
-            Err(_) => {
-                assert!(rt; false);
-                Ok(())
-            },
+            Ok(taken) => assert!(rt; taken.ack == 0x0F && taken.message.param.len() == 256),
+            Err(_) => assert!(rt; false),
         }
     }
 }

@@ -12,7 +12,8 @@ use crc16::checksum;
 // Takes apart the bytes of a frame that begins with `start` and has `overhead` bytes besides its parameter; None where they
 // do not have its shape. The CRC is not looked at.
 fn take_apart(bytes: &[u8], start: u8, overhead: usize) -> Option<Message<'_>>
-    requires { (overhead ≤ 8) × (7 ≤ overhead) }
+    requires most { overhead ≤ 8 }
+    requires least { 7 ≤ overhead }
     ensures value { option_map fields_of result ≡ shaped_fields start overhead bytes.now }
     ensures commands { Commands bytes.now }
     ensures replies { Replies bytes.now }

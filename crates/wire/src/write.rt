@@ -51,7 +51,8 @@ fn header_of(start: u8, message: Message<'_>) -> [u8; HEADER]
 
 // Appends the CRC of the first `end` bytes to them.
 fn append_crc(out: &mut [u8], end: usize)
-    requires { (5 ≤ end) × (end + 2 ≤ length out.old) }
+    requires header { 5 ≤ end }
+    requires room { end + 2 ≤ length out.old }
     ensures { out.new ≡ written_at out.old end (big_endian (crc_of (take end out.old))) }
 {
     let crc = checksum(&out[0..end]);

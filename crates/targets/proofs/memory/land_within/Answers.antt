@@ -13,9 +13,9 @@ returns g c =
     let vs = c.args.values.now in
     let os = c.args.array.now in
     let after : take size c.land_block.new.memory ≡ landed f start vs (take size os)
-    = ap (take size) c.land_block.ensures.lands ∙ front_landed f size start vs os c.requires.1 in
+    = ap (take size) c.land_block.ensures.lands ∙ front_landed f size start vs os c.requires.within in
     record {
       after = after;
-      long = front_long size os c.land_block.new.memory c.land_block.auto.memory c.requires.0;
+      long = front_long size os c.land_block.new.memory c.land_block.auto.memory c.requires.long;
       bytes = λ b. subst Bytes (sym after) (landed_bytes f g.met.L.Landing.onbytes start vs (take size os) (λ k. (c.type_inv.values k).fits) b);
     }
