@@ -1,12 +1,12 @@
 -- The neighbours law: one altered byte, or two neighbouring ones, alter the checksum. Assumes nothing.
 use Rattle.std.proofs.Common.{◌≡◌, ℕ, zero, suc, ◌+◌, ◌*◌, ◌/◌, ◌%◌, ◌^◌, ◌<◌, List, [], ◌∷◌, length, get_or, sym, refl, ap, ◌∙◌, ap₂, add-zero, div-add-mod', arith}
 use native.Mathlib.Nat.{suc_inj}
-use lib.Bits.{bit_xor, xor_block, xor_lt, xor_mod, xor_self, xor_zero_r}
+use lib.Bits.{bit_xor, xor_block, xor_comm, xor_lt, xor_mod, xor_self, xor_zero_r}
 use Rattle.std.proofs.lemmas.List.{ext_get_or}
 use Rattle.crc16.specs.Altered.{Altered}
 use Rattle.byte_rows.specs.Bytes.{Bytes}
-use Rattle.crc16.specs.Crc.{shifts, crc_step, crc_from, crc_of}
-use Rattle.crc16.proofs.Register.{shifts_linear, shifts_below, halves, low_up, upper_zero, xor_pairs, xor_cancel}
+use Rattle.crc16.specs.Crc.{shifts, crc_step, crc_from}
+use Rattle.crc16.proofs.Register.{shifts_linear, shifts_below, halves, low_up, upper_zero, xor_pairs, xor_cancel, xor_same}
 
 -- ---- eight shifts lose nothing
 
@@ -39,18 +39,13 @@ fed_same c d a b hc hd ha hb e = injective _ _ (fed_below c a hc ha) (fed_below 
 
 -- the same byte brings two registers together only if they were the same
 pub same_register : (c d b : ℕ) → c < 2 ^ 16 → d < 2 ^ 16 → b < 256 → crc_step c b ≡ crc_step d b → c ≡ d
-same_register c d b hc hd hb e =
-    xor_cancel c d
-    (sym (xor_zero_r _) ∙ ap (bit_xor (bit_xor c d)) (sym (xor_self (b * 256))) ∙ xor_pairs c d (b * 256) (b * 256)
-    ∙ ap (λ z. bit_xor z (bit_xor d (b * 256))) (fed_same c d b b hc hd hb hb e) ∙ xor_self (bit_xor d (b * 256)))
+same_register c d b hc hd hb e = xor_same c d (b * 256) (fed_same c d b b hc hd hb hb e)
 
 -- one register is brought to the same by the same byte only
 pub same_byte : (c a b : ℕ) → c < 2 ^ 16 → a < 256 → b < 256 → crc_step c a ≡ crc_step c b → a ≡ b
 same_byte c a b hc ha hb e =
-    let fed : bit_xor c (a * 256) ≡ bit_xor c (b * 256) = fed_same c c a b hc hc ha hb e in
     let same : a * 256 ≡ b * 256 =
-    xor_cancel _ _ (ap (λ z. bit_xor z (bit_xor (a * 256) (b * 256))) (sym (xor_self c))
-    ∙ xor_pairs c c (a * 256) (b * 256) ∙ ap (λ z. bit_xor z (bit_xor c (b * 256))) fed ∙ xor_self (bit_xor c (b * 256))) in
+    xor_same _ _ c (xor_comm (a * 256) c ∙ fed_same c c a b hc hc ha hb e ∙ xor_comm c (b * 256)) in
     omega arith
 
 -- a byte leaves the lower half alone until the register moves on
@@ -83,13 +78,11 @@ same_pair c a a' b b' hc ha ha' hb hb' e =
 -- ---- rows of bytes
 
 pub from_below : (c : ℕ) (xs : List ℕ) → c < 2 ^ 16 → Bytes xs → crc_from c xs < 2 ^ 16
-unfolding crc_from
 from_below c [] hc bx = hc
 from_below c (x ∷ xs) hc bx = from_below (crc_step c x) xs (step_below c x hc (bx 0)) (λ k. bx (suc k))
 
 -- the same bytes bring two registers together only if they were the same
 pub same_start : (c d : ℕ) (xs : List ℕ) → c < 2 ^ 16 → d < 2 ^ 16 → Bytes xs → crc_from c xs ≡ crc_from d xs → c ≡ d
-unfolding crc_from
 same_start c d [] hc hd bx e = e
 same_start c d (x ∷ xs) hc hd bx e =
     same_register c d x hc hd (bx 0)
@@ -98,7 +91,6 @@ same_start c d (x ∷ xs) hc hd bx e =
 -- rows that agree but at one place and the next are the same if their checksums are
 agree : (place c : ℕ) (xs ys : List ℕ) → c < 2 ^ 16 → Bytes xs → Bytes ys → length xs ≡ length ys
     → ((k : ℕ) → (k ≡ place → ⊥) → (k ≡ place + 1 → ⊥) → get_or xs k 0 ≡ get_or ys k 0) → crc_from c xs ≡ crc_from c ys → xs ≡ ys
-unfolding crc_from
 agree p c [] [] hc bx by l h e = refl
 agree p c [] (y ∷ ys) hc bx by l h e = absurd (omega arith)
 agree p c (x ∷ xs) [] hc bx by l h e = absurd (omega arith)
@@ -118,5 +110,5 @@ agree zero c (x ∷ x' ∷ xs) (y ∷ y' ∷ ys) hc bx by l h e =
     (same_start _ _ xs hs ht (λ k. bx (suc (suc k))) (e ∙ ap (crc_from _) (sym rest))) in
     ap₂ ◌∷◌ pair.0 (ap₂ ◌∷◌ pair.1 rest)
 
-pub neighbours : (xs ys : List ℕ) → Bytes xs → Bytes ys → Altered xs ys → crc_of xs ≡ crc_of ys → ⊥
-neighbours xs ys bx by a e = a.unlike (agree a.place 0 xs ys (omega arith) bx by a.as_long a.elsewhere e)
+pub neighbours : (c : ℕ) (xs ys : List ℕ) → c < 2 ^ 16 → Bytes xs → Bytes ys → Altered xs ys → crc_from c xs ≡ crc_from c ys → ⊥
+neighbours c xs ys hc bx by a e = a.unlike (agree a.place c xs ys hc bx by a.as_long a.elsewhere e)

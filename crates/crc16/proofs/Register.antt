@@ -1,9 +1,10 @@
 -- The register's laws: shifting is linear over exclusive or, and eight shifts lose nothing. Assumes nothing.
-use Rattle.std.proofs.Common.{◌≡◌, ℕ, zero, suc, ◌+◌, ◌*◌, ◌/◌, ◌%◌, ◌^◌, ◌<◌, Bool, true, cond, T, eqb, leb, List, [], ◌∷◌, get_or, sym, refl, ap, ◌∙◌, subst, ap₂, add-zero, div-add-mod', zero-add, arith, eqb→eq}
+use Rattle.std.proofs.Common.{◌≡◌, ℕ, zero, suc, ◌+◌, ◌*◌, ◌/◌, ◌%◌, ◌^◌, ◌<◌, eqb, leb, List, map, get_or, sym, refl, ap, ◌∙◌, subst, ap₂, add-zero, div-add-mod', zero-add, arith}
 use lib.Bits.{bit_xor, xor_block, xor_lt, xor_shifted, xor_zero_r, xor_self, xor_assoc, xor_comm}
-use Rattle.std.proofs.lemmas.Bool.{cond-true, cond-false, le-leb, lt-leb, eq-eqb}
+use Rattle.std.proofs.lemmas.Bool.{cond-true, cond-false, le-leb, lt-leb, eq-eqb, eqb-true}
+use Rattle.std.proofs.lemmas.List.FromFn.{get_or-map-range_with_len}
+use Rattle.std.specs.List.{range_with_len}
 use Rattle.crc16.specs.Crc.{shift, shifts}
-use Rattle.crc16.proofs.Below.{at}
 
 -- ---- exclusive or
 
@@ -13,9 +14,23 @@ xor_pairs a b c d =
     ∙ ap (bit_xor a) (sym (xor_assoc b c d) ∙ ap (λ x. bit_xor x d) (xor_comm b c) ∙ xor_assoc c b d)
     ∙ sym (xor_assoc a c (bit_xor b d))
 
+xor_twice : (a x : ℕ) → bit_xor (bit_xor a x) x ≡ a
+xor_twice a x = xor_assoc a x x ∙ ap (bit_xor a) (xor_self x) ∙ xor_zero_r a
+
 pub xor_cancel : (a b : ℕ) → bit_xor a b ≡ 0 → a ≡ b
-xor_cancel a b e =
-    sym (xor_zero_r a) ∙ ap (bit_xor a) (sym (xor_self b)) ∙ sym (xor_assoc a b b) ∙ ap (λ x. bit_xor x b) e
+xor_cancel a b e = sym (xor_twice a b) ∙ ap (λ x. bit_xor x b) e
+
+-- the same number on both sides goes
+pub xor_same : (a b x : ℕ) → bit_xor a x ≡ bit_xor b x → a ≡ b
+xor_same a b x e = sym (xor_twice a x) ∙ ap (λ y. bit_xor y x) e ∙ xor_twice b x
+
+-- ---- what computing shows
+
+-- two functions that agree at each number below n
+same_below : {X : Type 0} (f g : ℕ → X) (n : ℕ) → map f (range_with_len 0 n) ≡ map g (range_with_len 0 n) → (k : ℕ) → k < n → f k ≡ g k
+same_below f g n same k h =
+    sym (get_or-map-range_with_len f 0 n k k (f 0) h (zero-add k)) ∙ ap (λ xs. get_or xs k (f 0)) same
+    ∙ get_or-map-range_with_len g 0 n k k (f 0) h (zero-add k)
 
 -- ---- one bit on
 
@@ -64,10 +79,6 @@ shift_below a h =
     subst (λ x. x < 2 ^ 16) (sym (top s (a % 2 ^ 15) hs hq) ∙ ap shift (sym (split15 a)))
     (xor_lt 16 (a % 2 ^ 15 * 2) (s * 0x1021) (omega arith) (omega arith))
 
-shift_low : (a : ℕ) → a < 2 ^ 15 → shift a ≡ a * 2
-unfolding shift
-shift_low a h = cond-false (leb 0x8000 a) _ _ (lt-leb _ _ h)
-
 -- ---- n bits on
 
 pub shifts_below : (n a : ℕ) → a < 2 ^ 16 → shifts n a < 2 ^ 16
@@ -83,12 +94,8 @@ shifts_linear (suc n) a b ha hb =
 
 -- the lower half of the register comes to the upper half
 pub low_up : (a : ℕ) → a < 256 → shifts 8 a ≡ a * 256
-unfolding shifts
-low_up a h =
-    let one : (k : ℕ) → k < 2 ^ 15 → shift k ≡ k * 2 = shift_low in
-    ap (shifts 7) (one a (omega arith)) ∙ ap (shifts 6) (one _ (omega arith)) ∙ ap (shifts 5) (one _ (omega arith))
-    ∙ ap (shifts 4) (one _ (omega arith)) ∙ ap (shifts 3) (one _ (omega arith)) ∙ ap (shifts 2) (one _ (omega arith))
-    ∙ ap (shifts 1) (one _ (omega arith)) ∙ one _ (omega arith) ∙ omega arith
+unfolding shift shifts
+low_up a h = same_below (shifts 8) (λ b. b * 256) 256 refl a h
 
 -- the register in halves: the upper one goes through the table, the lower one comes to the upper half
 pub halves : (h l : ℕ) → h < 256 → l < 256 → shifts 8 (h * 256 + l) ≡ bit_xor (shifts 8 (h * 256)) (l * 256)
@@ -98,39 +105,25 @@ halves h l hh hl =
 
 -- ---- the table
 
--- f at each number from n on, for k numbers
-abbrev pub tabulated : (ℕ → ℕ) → ℕ → ℕ → List ℕ
-tabulated f zero n = []
-tabulated f (suc k) n = f n ∷ tabulated f k (suc n)
-
-get_or-tabulated : (f : ℕ → ℕ) (k n i : ℕ) → i < k → get_or (tabulated f k n) i 0 ≡ f (n + i)
-get_or-tabulated f zero n i h = absurd (omega arith)
-get_or-tabulated f (suc k) n zero h = ap f (omega arith)
-get_or-tabulated f (suc k) n (suc i) h = get_or-tabulated f k (suc n) i (omega arith) ∙ ap f (omega arith)
-
 -- the whole table, computed bit by bit: the entry i is what the upper half i comes to
 abbrev pub bitwise_table : List ℕ
 unfolding shift shifts
-bitwise_table = tabulated (λ i. shifts 8 (i * 256)) 256 0
+bitwise_table = map (λ i. shifts 8 (i * 256)) (range_with_len 0 256)
 
 -- eight bits on by the table
-pub table_shifts : (r : ℕ) → r < 2 ^ 16 → bit_xor (get_or bitwise_table (r / 256) 0) (r * 256 % 2 ^ 16) ≡ shifts 8 r
+pub table_shifts : (r high : ℕ) → r < 2 ^ 16 → high ≡ r / 256 → bit_xor (get_or bitwise_table high 0) (r * 256 % 2 ^ 16) ≡ shifts 8 r
 unfolding shift shifts
-table_shifts r h =
-    let hh : r / 256 < 256 = omega arith in
+table_shifts r high h e =
+    let hh : high < 256 = omega arith in
     let hl : r % 256 < 256 = omega arith in
     let up : r * 256 % 2 ^ 16 ≡ r % 256 * 256 = omega arith in
-    ap₂ bit_xor (get_or-tabulated (λ i. shifts 8 (i * 256)) 256 0 (r / 256) hh ∙ ap (λ i. shifts 8 (i * 256)) (zero-add (r / 256))) up
-    ∙ sym (halves (r / 256) (r % 256) hh hl) ∙ ap (shifts 8) (div-add-mod' r 256)
+    ap₂ bit_xor (get_or-map-range_with_len (λ i. shifts 8 (i * 256)) 0 256 high high 0 hh (zero-add high)) up
+    ∙ sym (halves high (r % 256) hh hl) ∙ ap (shifts 8) (ap (λ i. i * 256 + r % 256) e ∙ div-add-mod' r 256)
 
 -- ---- eight shifts lose nothing
 
 -- the lower half of a table entry is 0 only at the entry 0
-abbrev tells : ℕ → Bool
-unfolding shift shifts
-tells i = cond (eqb (shifts 8 (i * 256) % 256) 0) (eqb i 0) true
-
 pub upper_zero : (h : ℕ) → h < 256 → shifts 8 (h * 256) % 256 ≡ 0 → h ≡ 0
 unfolding shift shifts
 upper_zero h hh e =
-    eqb→eq h 0 (subst (λ b. T (cond b (eqb h 0) true)) (eq-eqb _ 0 e) (at tells 256 tt h hh))
+    eqb-true h 0 (sym (same_below (λ i. eqb (shifts 8 (i * 256) % 256) 0) (λ i. eqb i 0) 256 refl h hh) ∙ eq-eqb _ 0 e)

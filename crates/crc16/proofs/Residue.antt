@@ -1,15 +1,11 @@
 -- Bytes with their checksum behind them, high byte first, have the checksum 0. Assumes nothing.
-use Rattle.std.proofs.Common.{◌≡◌, ℕ, ◌+◌, ◌*◌, ◌/◌, ◌%◌, ◌^◌, ◌<◌, List, [], ◌∷◌, ◌++◌, sym, refl, ap, ◌∙◌, ap₂, add-zero, div-add-mod', arith}
+use Rattle.std.proofs.Common.{◌≡◌, ℕ, ◌+◌, ◌*◌, ◌/◌, ◌%◌, ◌^◌, ◌<◌, List, [], ◌∷◌, ◌++◌, sym, ap, ◌∙◌, ap₂, add-zero, div-add-mod', arith}
+use Rattle.std.proofs.lemmas.List.Sums.{fold-append}
 use lib.Bits.{bit_xor, xor_block, xor_self, xor_zero_r}
 use Rattle.byte_rows.specs.Bytes.{Bytes}
-use Rattle.crc16.specs.Crc.{shifts, crc_step, crc_from, crc_of}
+use Rattle.crc16.specs.Crc.{shifts, crc_step, crc_of}
 use Rattle.crc16.proofs.Register.{low_up}
 use Rattle.crc16.proofs.Neighbours.{from_below}
-
-pub crc_append : (c : ℕ) (xs ys : List ℕ) → crc_from c (xs ++ ys) ≡ crc_from (crc_from c xs) ys
-unfolding crc_from
-crc_append c [] ys = refl
-crc_append c (x ∷ xs) ys = crc_append (crc_step c x) xs ys
 
 -- the register's own halves bring it to 0
 own_halves : (c : ℕ) → c < 2 ^ 16 → crc_step (crc_step c (c / 256)) (c % 256) ≡ 0
@@ -23,5 +19,4 @@ own_halves c h =
     ∙ ap (shifts 8) (xor_self (c % 256 * 256)) ∙ low_up 0 (omega arith)
 
 pub residue : (xs : List ℕ) → Bytes xs → crc_of (xs ++ crc_of xs / 256 ∷ crc_of xs % 256 ∷ []) ≡ 0
-unfolding crc_from
-residue xs bx = crc_append 0 xs _ ∙ own_halves (crc_of xs) (from_below 0 xs (omega arith) bx)
+residue xs bx = fold-append crc_step 0 xs _ ∙ own_halves (crc_of xs) (from_below 0 xs (omega arith) bx)

@@ -1,10 +1,10 @@
 -- CRC-16/XMODEM, bit by bit: polynomial 0x1021, start 0x0000, highest bit first, no final inversion.
 -- The register is a number below 65,536. Assumes nothing.
-use Rattle.std.specs.Prelude.{ℕ, zero, suc, ◌*◌, ◌%◌, cond, List, [], ◌∷◌, bit_xor, nat_le}
+use Rattle.std.specs.Prelude.{ℕ, zero, suc, ◌*◌, ◌%◌, if◌then◌else◌, List, bit_xor, fold, nat_le}
 
 -- After one more bit: the register moves up one place, and where a 1 falls out at the top the polynomial is XORed in.
 unfoldable pub shift : ℕ → ℕ
-shift c = cond (nat_le 0x8000 c) (bit_xor (c * 2 % 0x10000) 0x1021) (c * 2)
+shift c = if nat_le 0x8000 c then bit_xor (c * 2 % 0x10000) 0x1021 else c * 2
 
 -- After n more bits.
 unfoldable pub shifts : ℕ → ℕ → ℕ
@@ -16,9 +16,8 @@ abbrev pub crc_step : ℕ → ℕ → ℕ
 crc_step c b = shifts 8 (bit_xor c (b * 256))
 
 -- The register after some bytes, begun at c.
-unfoldable pub crc_from : ℕ → List ℕ → ℕ
-crc_from c [] = c
-crc_from c (b ∷ bs) = crc_from (crc_step c b) bs
+abbrev pub crc_from : ℕ → List ℕ → ℕ
+crc_from c bs = fold crc_step c bs
 
 -- The checksum of some bytes.
 abbrev pub crc_of : List ℕ → ℕ

@@ -1,2 +1,3 @@
-pub mod Digits
+pub mod Printing
+pub mod Reading
 pub mod Spelling

@@ -1,10 +1,10 @@
 -- Bytes as hexadecimal text. Characters are their ASCII codes: 32 is a blank, 48 the digit 0, 65 and 97 the letters A and a.
 -- Assumes nothing.
-use Rattle.std.specs.Prelude.{ℕ, ◌+◌, ◌-◌, ◌*◌, ◌/◌, ◌%◌, cond, ◌&&◌, List, [], ◌∷◌, ◌++◌, Some, None, Option, ◌==◌, nat_le, nat_lt}
+use Rattle.std.specs.Prelude.{ℕ, ◌+◌, ◌-◌, ◌*◌, ◌/◌, ◌%◌, if◌then◌else◌, ◌&&◌, List, [], ◌∷◌, ◌++◌, Some, None, Option, ◌==◌, nat_le, nat_lt}
 
 -- The digit of a number below 16; letters are capital.
 abbrev pub hex_digit : ℕ → ℕ
-hex_digit n = cond (nat_lt n 10) (48 + n) (55 + n)
+hex_digit n = if nat_lt n 10 then 48 + n else 55 + n
 
 -- A byte as two digits.
 abbrev pub hex_byte : ℕ → List ℕ
@@ -22,8 +22,10 @@ hex_bytes (b ∷ bs) = 32 ∷ (hex_byte b ++ hex_bytes bs)
 -- What a digit counts, capital or small; None where the character is none.
 abbrev pub digit_value : ℕ → Option ℕ
 digit_value c =
-    cond (nat_le 48 c && nat_le c 57) (Some (c - 48))
-    (cond (nat_le 65 c && nat_le c 70) (Some (c - 55)) (cond (nat_le 97 c && nat_le c 102) (Some (c - 87)) None))
+    if nat_le 48 c && nat_le c 57 then Some (c - 48)
+    else if nat_le 65 c && nat_le c 70 then Some (c - 55)
+    else if nat_le 97 c && nat_le c 102 then Some (c - 87)
+    else None
 
 -- Two digits together.
 abbrev pub two_digits : Option ℕ → Option ℕ → Option ℕ
@@ -46,4 +48,4 @@ abbrev pub bytes_spelled : List ℕ → Option (List ℕ)
 bytes_spelled [] = Some []
 bytes_spelled (c ∷ []) = None
 bytes_spelled (c ∷ h ∷ []) = None
-bytes_spelled (c ∷ h ∷ l ∷ text) = cond (c == 32) (byte_before (byte_value h l) (bytes_spelled text)) None
+bytes_spelled (c ∷ h ∷ l ∷ text) = if c == 32 then byte_before (byte_value h l) (bytes_spelled text) else None

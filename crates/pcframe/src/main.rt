@@ -17,19 +17,15 @@ fn line_of_arguments(rt: &HostRuntime) -> anyhow::Result<String> {
     Ok(line)
 }
 
-fn run(rt: &HostRuntime) -> anyhow::Result<()> {
+fn main(rt: HostRuntime) -> anyhow::Result<()> {
     let heap = rt.alloc();
-    let line = line_of_arguments(rt)?;
+    let line = line_of_arguments(&rt)?;
     if !line.is_empty() {
         rt.println(answer(heap, line.as_bytes())?)?;
         return Ok(());
     }
     for line in BufReader::new(heap, rt.stdin())?.split(heap, b'\n') {
-        rt.println(answer(heap, line?.as_slice())?)?;
+        rt.println(answer(heap, &line?)?)?;
     }
     Ok(())
-}
-
-fn main(rt: HostRuntime) -> anyhow::Result<()> {
-    run(&rt)
 }

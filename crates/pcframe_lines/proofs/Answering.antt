@@ -1,6 +1,6 @@
 -- To the line of any command its frame is answered, and to the line of any reply its contents. Assumes nothing.
-use Rattle.std.proofs.Common.{◌≡◌, ℕ, ◌+◌, ◌≤◌, ◌&&◌, leb, List, [], ◌∷◌, length, Ok, ap, ◌∙◌, arith}
-use Rattle.std.proofs.lemmas.Bool.{and_from, cond-true, le-leb}
+use Rattle.std.proofs.Common.{◌≡◌, ℕ, ◌+◌, ◌≤◌, List, [], ◌∷◌, length, Ok, ap, ◌∙◌, arith}
+use Rattle.std.proofs.lemmas.Bool.Decides.{nat_tests}
 use Rattle.byte_rows.proofs.Bytes.{bytes_cons, bytes_none}
 use Rattle.wire.specs.Fields.{Fields, Fit, ReplyFields}
 use Rattle.wire.specs.Frames.{command_frame, reply_frame}
@@ -13,9 +13,7 @@ use Rattle.pcframe_lines.specs.Lines.{answer_to, answered, frame_or_refusal, hex
 
 -- the buffer holds the longest command
 longest_fits : (n : ℕ) → 1 ≤ n → n ≤ 256 → write_result n 7 263 ≡ Ok (n + 7)
-longest_fits n some few =
-    cond-true (leb 1 n && leb n 256) _ _ (and_from _ _ (le-leb 1 n some) (le-leb n 256 few))
-    ∙ cond-true (leb (n + 7) 263) _ _ (le-leb (n + 7) 263 (omega arith))
+longest_fits n some few = grind (arith, nat_tests)
 
 packs : (line : List ℕ) (f : Fields) → RequestLaws line → Fit f → line ≡ command_line f → answered line ≡ hex_line (command_frame f)
 packs line f asks fit e =

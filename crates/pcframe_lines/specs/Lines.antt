@@ -1,8 +1,7 @@
 -- What pcframe answers to a line. Assumes nothing.
-use Rattle.std.specs.Prelude.{ℕ, List, [], ◌∷◌, ◌++◌, length, Some, None, Ok, Err, codes, decimal, Option, Result}
-use Rattle.wire.specs.Codes.{ack_of, refusal_number}
+use Rattle.std.specs.Prelude.{ℕ, List, [], ◌∷◌, ◌++◌, length, Some, None, Ok, Err, codes, Option, Result}
+use Rattle.wire.specs.Codes.{ack_name, ack_of, refusal_text}
 use Rattle.wire.specs.declared.Ack.{Ack}
-use Rattle.wire.specs.declared.Ack.TheVariants as ack
 use Rattle.wire.specs.declared.Refusal.{Refusal}
 use Rattle.wire.specs.Fields.{ReplyFields, Fields}
 use Rattle.wire.specs.Frames.{command_frame}
@@ -11,23 +10,10 @@ use Rattle.wire.specs.Reading.{unpacked}
 use Rattle.hex_text.specs.Hex.{hex_address, hex_byte, hex_bytes}
 use Rattle.pcframe_requests.specs.Requests.{Asked, asked, neither, packing, unpacking}
 
--- A refusal as it is answered.
-abbrev pub refusal_line : Refusal → List ℕ
-refusal_line r = codes "!" ++ decimal (refusal_number r)
-
 -- Bytes with a blank between each two.
 abbrev pub hex_line : List ℕ → List ℕ
 hex_line [] = []
 hex_line (b ∷ bs) = hex_byte b ++ hex_bytes bs
-
--- The name of an acknowledgement.
-abbrev pub ack_name : Ack → List ℕ
-ack_name ack.Ok = codes "ok"
-ack_name ack.InvalidCommand = codes "invalid command"
-ack_name ack.InvalidCrc = codes "invalid CRC"
-ack_name ack.InvalidChannel = codes "invalid channel"
-ack_name ack.InvalidParam = codes "invalid parameter"
-ack_name ack.GeneralError = codes "general error"
 
 -- The name behind an ACK byte, where it has one.
 abbrev pub ack_note : Option Ack → List ℕ
@@ -47,12 +33,12 @@ report a =
 -- A frame, or the refusal to pack it.
 abbrev pub frame_or_refusal : Result ℕ Refusal → List ℕ → List ℕ
 frame_or_refusal (Ok n) text = text
-frame_or_refusal (Err r) text = refusal_line r
+frame_or_refusal (Err r) text = refusal_text r
 
 -- A reply, or the refusal to unpack it.
 abbrev pub report_or_refusal : Result ReplyFields Refusal → List ℕ
 report_or_refusal (Ok a) = report a
-report_or_refusal (Err r) = refusal_line r
+report_or_refusal (Err r) = refusal_text r
 
 -- What is answered to a command: its frame, or the refusal to pack it into a buffer for the longest command.
 abbrev pub packed_line : Fields → List ℕ

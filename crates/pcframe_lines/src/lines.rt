@@ -1,25 +1,16 @@
 ghost use Rattle.std.specs.Prelude.{◌≡◌, IfOk, string_bytes};
 ghost use Rattle.wire.specs.Fields.{reply_fields_of, fields_of};
-ghost use Rattle.pcframe_requests.specs.Requests.{asked, request_as};
 ghost use Rattle.pcframe_lines.specs.Laws.{LineLaws};
-ghost use Rattle.pcframe_lines.specs.Lines.{answered, hex_line, packed_line, refusal_line, report, unpacked_line};
+ghost use Rattle.pcframe_lines.specs.Lines.{answered, hex_line, packed_line, report, unpacked_line};
 
 use crate::acks::AckByte;
 use hex_text::{Address, Hex, HexBytes};
 use pcframe_requests::{Request, parse};
 use std::alloc::{AllocError, Global};
-use wire::{Message, Refusal, Reply, pack, unpack};
+use wire::{Message, Reply, pack, unpack};
 
 // The longest frame that a PC sends: 256 parameter bytes and 7 others.
 const LONGEST_COMMAND: usize = 263;
-
-// A refusal as it is answered.
-fn refused(heap: Global, refusal: Refusal) -> Result<String, AllocError>
-    ensures { IfOk result (λ s. string_bytes s ≡ refusal_line refusal) }
-{
-    let number = refusal.number();
-    format!(in heap; "!{number}")
-}
 
 // A reply taken apart, as it is answered.
 fn report_of(heap: Global, reply: Reply<'_>) -> Result<String, AllocError>
@@ -36,12 +27,10 @@ fn report_of(heap: Global, reply: Reply<'_>) -> Result<String, AllocError>
 fn hex_line(heap: Global, bytes: &[u8]) -> Result<String, AllocError>
     ensures { IfOk result (λ s. string_bytes s ≡ hex_line bytes.now) }
 {
-    let Some((first, rest)) = bytes.split_first() else {
-        return Ok(String::new(heap));
-    };
-    let first = Hex(*first);
-    let rest = HexBytes(rest);
-    format!(in heap; "{first}{rest}")
+    match bytes {
+        [] => Ok(String::new(heap)),
+        [first, rest @ ..] => format!(in heap; "{}{}", Hex(*first), HexBytes(rest)),
+    }
 }
 
 // What is answered to a command.
@@ -50,8 +39,8 @@ fn packed(heap: Global, message: Message<'_>) -> Result<String, AllocError>
 {
     let mut frame = [0; LONGEST_COMMAND];
     match pack(message, &mut frame) {
-        Ok(len) => hex_line(heap, &frame[0..len]),
-        Err(refusal) => refused(heap, refusal),
+        Ok(len) => hex_line(heap, &frame[..len]),
+        Err(refusal) => refusal.to_string(heap),
     }
 }
 
@@ -61,37 +50,32 @@ fn unpacked_as(heap: Global, bytes: &[u8]) -> Result<String, AllocError>
 {
     match unpack(bytes) {
         Ok(reply) => report_of(heap, reply),
-        Err(refusal) => refused(heap, refusal),
+        Err(refusal) => refusal.to_string(heap),
     }
 }
 
-// What a line asks for, with what the answers come to.
-fn request_in(heap: Global, line: &[u8]) -> Result<Request, AllocError>
-    ensures value { IfOk result (λ q. request_as q ≡ asked line.now) }
-    ensures laws { LineLaws line.now }
-{
-    parse(heap, line)
-}
-
 // What is answered to a line.
+#[tactic(auto, using(crate::proofs::Answering::line_laws))]
 pub fn answer(heap: Global, line: &[u8]) -> Result<String, AllocError>
     ensures text { IfOk result (λ s. string_bytes s ≡ answered line.now) }
     ensures laws { LineLaws line.now }
 {
-    match request_in(heap, line)? {
-        Request::Pack {
-            command,
-            address,
-            param,
-        } => packed(
+    match parse(heap, line)? {
+        Some(
+            Request::Pack {
+                command,
+                address,
+                param,
+            },
+        ) => packed(
             heap,
             Message {
                 command,
                 address,
-                param: param.as_slice(),
+                param: &param,
             },
         ),
-        Request::Unpack(bytes) => unpacked_as(heap, bytes.as_slice()),
-        Request::Unknown => String::from_str(heap, "?"),
+        Some(Request::Unpack(bytes)) => unpacked_as(heap, &bytes),
+        None => String::from_str(heap, "?"),
     }
 }

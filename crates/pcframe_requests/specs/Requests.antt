@@ -1,8 +1,8 @@
 -- What a line asks for: `p` packs a command, `u` takes a reply apart. Assumes nothing.
-use Rattle.std.specs.Prelude.{ℕ, ◌+◌, ◌-◌, ◌*◌, cond, ◌&&◌, List, [], ◌∷◌, length, take, drop, Some, None, vec_items, Option, ◌==◌, nat_le, slice_index}
+use Rattle.std.specs.Prelude.{ℕ, ◌+◌, ◌-◌, ◌*◌, if◌then◌else◌, ◌&&◌, List, [], ◌∷◌, length, take, drop, Some, None, vec_items, Option, ◌==◌, nat_le, slice_index}
 use Rattle.wire.specs.Fields.{Fields}
 use Rattle.pcframe_requests.specs.declared.request.Request.{Request}
-use Rattle.pcframe_requests.specs.declared.request.Request.TheVariants.{Pack, Unpack, Unknown}
+use Rattle.pcframe_requests.specs.declared.request.Request.TheVariants.{Pack, Unpack}
 use Rattle.hex_text.specs.Hex.{byte_value, bytes_spelled}
 
 -- What can be asked for.
@@ -11,11 +11,11 @@ pub data Asked : Type 0 where
   unpacking : List ℕ → Asked
   neither : Asked
 
--- The code's `Request`, as plain values.
-abbrev pub request_as : Request → Asked
-request_as (Pack command address param) = packing (record { command = command; address = address; param = vec_items param })
-request_as (Unpack bytes) = unpacking (vec_items bytes)
-request_as Unknown = neither
+-- The code's `Request`, if there is one, as plain values.
+abbrev pub request_as : Option Request → Asked
+request_as None = neither
+request_as (Some (Pack command address param)) = packing (record { command = command; address = address; param = vec_items param })
+request_as (Some (Unpack bytes)) = unpacking (vec_items bytes)
 
 -- COMMAND and ADDRESS from their bytes.
 abbrev pub head_from : Option ℕ → Option ℕ → Option ℕ → Option (ℕ × ℕ)
@@ -27,9 +27,10 @@ head_from (Some c) (Some h) (Some l) = Some (c, h * 256 + l)
 -- COMMAND and ADDRESS in front of a text: a blank and two digits, a blank and four digits.
 abbrev pub head_spelled : List ℕ → Option (ℕ × ℕ)
 head_spelled text =
-    cond (nat_le 8 (length text) && (slice_index text 0 == 32 && slice_index text 3 == 32))
-    (head_from (byte_value (slice_index text 1) (slice_index text 2)) (byte_value (slice_index text 4) (slice_index text 5)) (byte_value (slice_index text 6) (slice_index text 7)))
-    None
+    if nat_le 8 (length text) && (slice_index text 0 == 32 && slice_index text 3 == 32)
+    then head_from (byte_value (slice_index text 1) (slice_index text 2)) (byte_value (slice_index text 4) (slice_index text 5))
+    (byte_value (slice_index text 6) (slice_index text 7))
+    else None
 
 -- A packing, if its two parts are there.
 abbrev pub packing_of : Option (ℕ × ℕ) → Option (List ℕ) → Asked
@@ -44,14 +45,15 @@ unpacking_of (Some bytes) = unpacking bytes
 
 -- A line without the carriage return that may end it.
 abbrev pub trimmed : List ℕ → List ℕ
-trimmed line = cond (slice_index line (length line - 1) == 13) (take (length line - 1) line) line
+trimmed line = if slice_index line (length line - 1) == 13 then take (length line - 1) line else line
 
 -- What a trimmed line asks for, by its first character: 112 is p, 117 is u.
 abbrev pub asked_by : List ℕ → Asked
 asked_by [] = neither
 asked_by (letter ∷ text) =
-    cond (letter == 112) (packing_of (head_spelled text) (bytes_spelled (drop 8 text)))
-    (cond (letter == 117) (unpacking_of (bytes_spelled text)) neither)
+    if letter == 112 then packing_of (head_spelled text) (bytes_spelled (drop 8 text))
+    else if letter == 117 then unpacking_of (bytes_spelled text)
+    else neither
 
 -- What a line asks for.
 abbrev pub asked : List ℕ → Asked

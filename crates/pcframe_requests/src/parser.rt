@@ -24,60 +24,53 @@ fn head_of(text: &[u8]) -> Option<(u8, u16)>
 }
 
 // What the text behind a `p` asks for.
-fn packing(heap: Global, text: &[u8]) -> Result<Request, AllocError>
+fn packing(heap: Global, text: &[u8]) -> Result<Option<Request>, AllocError>
     ensures { IfOk result (λ q. request_as q ≡ packing_of (head_spelled text.now) (bytes_spelled (drop 8 text.now))) }
 {
     let Some((command, address)) = head_of(text) else {
-        return Ok(Request::Unknown);
+        return Ok(None);
     };
-    let (_, rest) = text.split_at(HEAD);
-    let Some(param) = bytes_of(heap, rest)? else {
-        return Ok(Request::Unknown);
+    let Some(param) = bytes_of(heap, &text[HEAD..])? else {
+        return Ok(None);
     };
-    Ok(Request::Pack {
+    Ok(Some(Request::Pack {
         command,
         address,
         param,
-    })
+    }))
 }
 
 // What the text behind a `u` asks for.
-fn unpacking(heap: Global, text: &[u8]) -> Result<Request, AllocError>
+fn unpacking(heap: Global, text: &[u8]) -> Result<Option<Request>, AllocError>
     ensures { IfOk result (λ q. request_as q ≡ unpacking_of (bytes_spelled text.now)) }
 {
-    let Some(bytes) = bytes_of(heap, text)? else {
-        return Ok(Request::Unknown);
-    };
-    Ok(Request::Unpack(bytes))
+    Ok(bytes_of(heap, text)?.map(Request::Unpack))
+}
+
+// What a trimmed line asks for.
+fn request_of(heap: Global, line: &[u8]) -> Result<Option<Request>, AllocError>
+    ensures { IfOk result (λ q. request_as q ≡ asked_by line.now) }
+{
+    match line {
+        [b'p', text @ ..] => packing(heap, text),
+        [b'u', text @ ..] => unpacking(heap, text),
+        _ => Ok(None),
+    }
 }
 
 // A line without the carriage return that may end it.
 fn trim(line: &[u8]) -> &[u8]
-    ensures value { result.now ≡ trimmed line.now }
-    ensures laws { RequestLaws line.now }
+    ensures { result.now ≡ trimmed line.now }
 {
-    let Some((last, text)) = line.split_last() else {
-        return line;
-    };
-    if *last == b'\r' { text } else { line }
-}
-
-// What a trimmed line asks for.
-fn request_of(heap: Global, line: &[u8]) -> Result<Request, AllocError>
-    ensures { IfOk result (λ q. request_as q ≡ asked_by line.now) }
-{
-    let Some((letter, text)) = line.split_first() else {
-        return Ok(Request::Unknown);
-    };
-    match *letter {
-        b'p' => packing(heap, text),
-        b'u' => unpacking(heap, text),
-        _ => Ok(Request::Unknown),
+    match line {
+        [text @ .., b'\r'] => text,
+        _ => line,
     }
 }
 
 // What a line asks for.
-pub fn parse(heap: Global, line: &[u8]) -> Result<Request, AllocError>
+#[tactic(auto, using(crate::proofs::Asking::request_laws))]
+pub fn parse(heap: Global, line: &[u8]) -> Result<Option<Request>, AllocError>
     ensures value { IfOk result (λ q. request_as q ≡ asked line.now) }
     ensures laws { RequestLaws line.now }
 {

@@ -1,6 +1,6 @@
 // What a line asks for.
 
-#[derive(Drop)]
+#[derive(Debug, PartialEq, Eq, Drop)]
 pub enum Request {
     // the frame of a command
     Pack {
@@ -10,6 +10,4 @@ pub enum Request {
     },
     // the contents of a reply
     Unpack(Vec<u8>),
-    // neither
-    Unknown,
 }

@@ -1,24 +1,21 @@
 -- Bytes that have the shape of a frame. Assumes nothing.
-use Rattle.std.proofs.Common.{◌≡◌, ℕ, ◌+◌, ◌-◌, ◌≤◌, true, eqb, leb, List, length, get_or, take, drop, Some, sym, ap, ◌∙◌, arith}
+use Rattle.std.proofs.Common.{◌≡◌, ℕ, ◌+◌, ◌-◌, ◌≤◌, true, List, length, get_or, take, drop, Some, sym, ap, ◌∙◌, arith}
 use Rattle.std.proofs.lemmas.List.{take_rest}
-use Rattle.std.proofs.lemmas.Bool.{and_from, and_parts, cond_both, cond-true, eq-eqb, eqb-false, eqb-true, le-leb}
+use Rattle.std.proofs.lemmas.Bool.Decides.{nat_tests}
+use Rattle.std.proofs.lemmas.Bool.{cond-true}
 use Rattle.wire.specs.Frames.{param_count}
 use Rattle.wire.specs.Reading.{count_in, number_at, shaped, shaped_fields}
 
 -- PARAM_LEN announces at least one byte
 pub count_some : (len : ℕ) → 1 ≤ param_count len
-count_some len = cond_both (eqb len 0) 256 len (λ n. 1 ≤ n) (λ e. omega arith) (λ e. let f = eqb-false len 0 e in omega arith)
+count_some len = grind (arith, nat_tests)
 
 pub shape_met : (start overhead : ℕ) (bs : List ℕ) → get_or bs 0 0 ≡ start → length bs ≡ count_in bs + overhead → shaped start overhead bs ≡ true
-shape_met start overhead bs first long =
-    let some = count_some (get_or bs 4 0) in
-    and_from _ _ (le-leb (overhead + 1) (length bs) (omega arith)) (and_from _ _ (eq-eqb _ _ first) (eq-eqb _ _ long))
+shape_met start overhead bs first long = grind (arith, nat_tests, count_some (get_or bs 4 0))
 
 pub shape_parts : (start overhead : ℕ) (bs : List ℕ) → shaped start overhead bs ≡ true
     → (get_or bs 0 0 ≡ start) × (length bs ≡ count_in bs + overhead)
-shape_parts start overhead bs shape =
-    let rest = and_parts (eqb (get_or bs 0 0) start) (eqb (length bs) (count_in bs + overhead)) (and_parts (leb (overhead + 1) (length bs)) _ shape).1 in
-    (eqb-true _ _ rest.0, eqb-true _ _ rest.1)
+shape_parts start overhead bs shape = grind (arith, nat_tests)
 
 pub fields_met : (start overhead count address : ℕ) (bs param : List ℕ) → get_or bs 0 0 ≡ start → count ≡ count_in bs
     → length bs ≡ count + overhead → address ≡ number_at bs 2 → param ≡ take count (take (length bs - 5) (drop 5 bs))

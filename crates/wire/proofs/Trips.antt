@@ -1,8 +1,10 @@
 -- There and back: the bytes of a frame say what it was made of, and only the bytes of a frame say anything.
 -- Assumes nothing.
-use Rattle.std.proofs.Common.{◌≡◌, ℕ, ◌+◌, ◌-◌, ◌*◌, ◌/◌, ◌%◌, ◌<◌, ◌≤◌, true, eqb, List, [], ◌∷◌, ◌++◌, length, get_or, take, drop, sym, refl, ap, ◌∙◌, ap₂, div-add-mod', arith, take-add}
-use Rattle.std.proofs.lemmas.List.{append_assoc, drop_all, drop_more, get_or-append-add, get_or_at, length-append, length-drop, length-take-le, take-append-drop, take_at}
-use Rattle.std.proofs.lemmas.Bool.{cond_both, cond-false, eq-eqb, eqb-true, ne_eqb}
+use Rattle.std.proofs.Common.{◌≡◌, ℕ, ◌+◌, ◌-◌, ◌*◌, ◌/◌, ◌%◌, ◌<◌, ◌≤◌, true, List, [], ◌∷◌, ◌++◌, length, get_or, take, drop, sym, refl, ap, ◌∙◌, ap₂, div-add-mod', arith, take-add}
+use Rattle.std.proofs.lemmas.List.{append_assoc, length-append, length-drop, length-take-le, take_at}
+use Rattle.std.proofs.lemmas.Bool.Decides.{nat_tests}
+use Rattle.std.proofs.lemmas.Bool.{eqb-true}
+use Rattle.std.proofs.lemmas.Grind.{common_steps}
 use Rattle.byte_rows.specs.Bytes.{Bytes}
 use Rattle.crc16.specs.Crc.{crc_of}
 use Rattle.byte_rows.proofs.Bytes.{bytes_drop, bytes_take}
@@ -14,28 +16,18 @@ use Rattle.wire.proofs.Shapes.{count_some, shape_met, shape_parts}
 -- ---- PARAM_LEN
 
 pub count_len : (n : ℕ) → 1 ≤ n → n ≤ 256 → param_count (param_len n) ≡ n
-count_len n some few =
-    cond_both (eqb n 256) 0 n (λ x. param_count x ≡ n) (λ e. sym (eqb-true n 256 e))
-    (λ e. cond-false (eqb n 0) 256 n (ne_eqb n 0 (omega arith)))
+count_len n some few = grind (arith, nat_tests)
 
 pub len_count : (b : ℕ) → b < 256 → param_len (param_count b) ≡ b
-len_count b h =
-    cond_both (eqb b 0) 256 b (λ x. param_len x ≡ b) (λ e. sym (eqb-true b 0 e))
-    (λ e. cond-false (eqb b 256) 0 b (ne_eqb b 256 (omega arith)))
+len_count b h = grind (arith, nat_tests)
 
 pub count_few : (b : ℕ) → b < 256 → param_count b ≤ 256
-count_few b h = cond_both (eqb b 0) 256 b (λ x. x ≤ 256) (λ e. omega arith) (λ e. omega arith)
+count_few b h = grind (arith, nat_tests)
 
 -- ---- there
 
 crc_met : (body : List ℕ) → crc_right (with_crc body) ≡ true
-crc_met body =
-    let n = length body in
-    let end : length (with_crc body) - 2 ≡ n = omega (arith, length-append body (big_endian (crc_of body))) in
-    let high : get_or (with_crc body) n 0 ≡ crc_of body / 256 = get_or_at body _ _ 0 n refl in
-    let low : get_or (with_crc body) (n + 1) 0 ≡ crc_of body % 256 = get_or-append-add body (big_endian (crc_of body)) 1 0 in
-    eq-eqb _ _ (ap (λ k. crc_of (take k (with_crc body))) end ∙ ap crc_of (take_at body _ n refl)
-    ∙ sym (ap (number_at (with_crc body)) end ∙ ap₂ (λ x y. x * 256 + y) high low ∙ div-add-mod' (crc_of body) 256))
+crc_met body = grind (arith, common_steps, nat_tests)
 
 pub record Whole (start overhead : ℕ) (f : Fields) (bs : List ℕ) : Type 0 where
   pub shape : shaped start overhead bs ≡ true
@@ -48,7 +40,7 @@ there start f extra counted =
     let body = header start f ++ (f.param ++ extra) in
     let many : count_in (frame start f extra) ≡ n = count_len n counted.some counted.few in
     let long : length (frame start f extra) ≡ count_in (frame start f extra) + (length extra + 7) =
-    length-append body (big_endian (crc_of body)) ∙ omega (arith, length-append f.param extra, many) in
+    simp length-append (omega (arith, many)) in
     let param : take (count_in (frame start f extra)) (drop 5 (frame start f extra)) ≡ f.param =
     ap (λ k. take k ((f.param ++ extra) ++ big_endian (crc_of body))) many
     ∙ ap (take n) (append_assoc f.param extra _) ∙ take_at f.param _ n refl in
@@ -76,24 +68,16 @@ low : (h l : ℕ) → l < 256 → l ≡ (h * 256 + l) % 256
 low h l b = omega arith
 
 two : (h l : ℕ) → l < 256 → big_endian (h * 256 + l) ≡ h ∷ l ∷ []
-two h l b = ap₂ (λ x y. x ∷ y ∷ []) (sym (high h l b)) (sym (low h l b))
+two h l b = grind (arith, common_steps)
 
 -- the last two places of a list
 last_two : (bs : List ℕ) (m : ℕ) → length bs ≡ m + 2 → bs ≡ take m bs ++ get_or bs m 0 ∷ get_or bs (m + 1) 0 ∷ []
-last_two bs m long =
-    sym (take-append-drop m bs)
-    ∙ ap (λ l. take m bs ++ l) (drop_more bs m 0 (omega arith)
-    ∙ ap (λ l. get_or bs m 0 ∷ l) (drop_more bs (m + 1) 0 (omega arith) ∙ ap (λ l. get_or bs (m + 1) 0 ∷ l) (drop_all (m + 1 + 1) bs (omega arith))))
+last_two bs m long = grind (arith, common_steps)
 
 -- the first five places of a list, and j more
 first_five : (bs : List ℕ) (j : ℕ) → 5 ≤ length bs
     → take (5 + j) bs ≡ (get_or bs 0 0 ∷ get_or bs 1 0 ∷ get_or bs 2 0 ∷ get_or bs 3 0 ∷ get_or bs 4 0 ∷ []) ++ take j (drop 5 bs)
-first_five [] j h = absurd (omega arith)
-first_five (a ∷ []) j h = absurd (omega arith)
-first_five (a ∷ b ∷ []) j h = absurd (omega arith)
-first_five (a ∷ b ∷ c ∷ []) j h = absurd (omega arith)
-first_five (a ∷ b ∷ c ∷ d ∷ []) j h = absurd (omega arith)
-first_five (a ∷ b ∷ c ∷ d ∷ e ∷ bs) j h = take-add 5 j (a ∷ b ∷ c ∷ d ∷ e ∷ bs)
+first_five bs j h = grind (arith, common_steps)
 
 pub back : (start overhead : ℕ) (bs : List ℕ) → 7 ≤ overhead → Bytes bs → shaped start overhead bs ≡ true → crc_right bs ≡ true → Framed start overhead bs
 back start overhead bs seven bytes shape crc =

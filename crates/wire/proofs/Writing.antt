@@ -1,17 +1,10 @@
 -- Parts copied into a buffer one behind another. Assumes nothing.
 use Rattle.std.proofs.Common.{◌≡◌, ℕ, ◌+◌, List, ◌++◌, length, take, drop, sym, refl, ap, ◌∙◌, ap₂, zero-add, arith}
-use borrow.Rule.Slice.PartMut.{put_mid}
 use Rattle.std.proofs.lemmas.List.{append_assoc, drop_at, drop-drop, length-append, take_at}
 use Rattle.crc16.specs.Crc.{crc_of}
 use Rattle.wire.specs.Fields.{Fields}
 use Rattle.wire.specs.Frames.{big_endian, frame, header}
 use Rattle.wire.specs.Packing.{written_at}
-
--- what the code's copy into a part comes to
-pub copied : (at k : ℕ) (out ys part : List ℕ) → k ≡ length part → ys ≡ part → put_mid at k out ys ≡ written_at out at part
-copied at k out ys part long same =
-    ap₂ (λ n l. take at out ++ (l ++ drop n (drop at out))) long same
-    ∙ ap (λ l. take at out ++ (part ++ l)) (drop-drop (length part) at out)
 
 -- a part at the front of a buffer
 abbrev front : List ℕ → List ℕ → List ℕ
@@ -33,7 +26,7 @@ frame_written start f extra head out o₁ o₂ o₃ o₄ e h₁ h₂ h₃ h₄ =
     let body = header start f ++ (f.param ++ extra) in
     let end = 5 + length f.param + length extra in
     let at₃ : length (header start f ++ f.param) ≡ 5 + length f.param = length-append (header start f) f.param in
-    let at₄ : length body ≡ end = length-append (header start f) (f.param ++ extra) ∙ omega (arith, length-append f.param extra) in
+    let at₄ : length body ≡ end = simp length-append (omega arith) in
     let g₁ : o₁ ≡ front (header start f) out = h₁ ∙ ap (λ l. written_at out 0 l) e ∙ ap (λ n. header start f ++ drop n out) (zero-add 5) in
     let g₂ : o₂ ≡ front (header start f ++ f.param) out = h₂ ∙ ap (λ l. written_at l 5 f.param) g₁ ∙ behind (header start f) f.param out 5 refl in
     let g₃ : o₃ ≡ front body out =

@@ -1,7 +1,8 @@
--- The numbers that stand for an acknowledgement on the wire and for a refusal. Assumes nothing.
-use Rattle.std.specs.Prelude.{ℕ, cond, List, [], ◌∷◌, Some, None, Option, ◌==◌}
+-- The numbers that stand for an acknowledgement on the wire and for a refusal, and both as text. Assumes nothing.
+use Rattle.std.specs.Prelude.{ℕ, List, [], ◌∷◌, ◌++◌, Option, Result, ◌==◌, codes, decimal, find, ok_or}
 use Rattle.wire.specs.declared.ack.Ack.{Ack}
 use Rattle.wire.specs.declared.ack.Ack.TheVariants as ack
+use Rattle.wire.specs.declared.ack.UnknownAck.{UnknownAck}
 use Rattle.wire.specs.declared.refusal.Refusal.{Refusal}
 use Rattle.wire.specs.declared.refusal.Refusal.TheVariants.{ReplyWaiting, NoReply, ShortBuffer, NoChannel, ParamCount, NotAReply, WrongCrc}
 
@@ -14,14 +15,23 @@ ack_code ack.InvalidChannel = 0x08
 ack_code ack.InvalidParam = 0x09
 ack_code ack.GeneralError = 0x0F
 
--- The first of some acknowledgements that has the code.
-abbrev pub ack_among : List Ack → ℕ → Option Ack
-ack_among [] code = None
-ack_among (a ∷ rest) code = cond (ack_code a == code) (Some a) (ack_among rest code)
-
 -- The acknowledgement that has the code, if any.
 abbrev pub ack_of : ℕ → Option Ack
-ack_of code = ack_among (ack.Ok ∷ ack.InvalidCommand ∷ ack.InvalidCrc ∷ ack.InvalidChannel ∷ ack.InvalidParam ∷ ack.GeneralError ∷ []) code
+ack_of code =
+    find (λ a. ack_code a == code) (ack.Ok ∷ ack.InvalidCommand ∷ ack.InvalidCrc ∷ ack.InvalidChannel ∷ ack.InvalidParam ∷ ack.GeneralError ∷ [])
+
+-- The acknowledgement that has the code, or the code as an error.
+abbrev pub ack_decoded : ℕ → Result Ack UnknownAck
+ack_decoded code = ok_or (ack_of code) (record { 0 = code })
+
+-- The name of an acknowledgement.
+abbrev pub ack_name : Ack → List ℕ
+ack_name ack.Ok = codes "ok"
+ack_name ack.InvalidCommand = codes "invalid command"
+ack_name ack.InvalidCrc = codes "invalid CRC"
+ack_name ack.InvalidChannel = codes "invalid channel"
+ack_name ack.InvalidParam = codes "invalid parameter"
+ack_name ack.GeneralError = codes "general error"
 
 -- The number of a refusal.
 abbrev pub refusal_number : Refusal → ℕ
@@ -32,3 +42,7 @@ refusal_number NoChannel = 24
 refusal_number ParamCount = 25
 refusal_number NotAReply = 26
 refusal_number WrongCrc = 27
+
+-- A refusal as it is answered.
+abbrev pub refusal_text : Refusal → List ℕ
+refusal_text r = codes "!" ++ decimal (refusal_number r)

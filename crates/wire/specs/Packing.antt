@@ -1,5 +1,5 @@
 -- What writing a frame into a caller's buffer comes to. Assumes nothing.
-use Rattle.std.specs.Prelude.{ℕ, ◌+◌, cond, ◌&&◌, List, ◌++◌, length, take, drop, is_ok, Ok, Err, Result, nat_le}
+use Rattle.std.specs.Prelude.{ℕ, ◌+◌, if◌then◌else◌, ◌&&◌, List, ◌++◌, length, take, drop, is_ok, Ok, Err, Result, nat_le}
 use Rattle.wire.specs.declared.refusal.Refusal.{Refusal}
 use Rattle.wire.specs.declared.refusal.Refusal.TheVariants.{ShortBuffer, ParamCount}
 
@@ -7,11 +7,13 @@ use Rattle.wire.specs.declared.refusal.Refusal.TheVariants.{ShortBuffer, ParamCo
 -- more than 256, is refused first, then a buffer that is shorter than the frame.
 abbrev pub write_result : (count overhead space : ℕ) → Result ℕ Refusal
 write_result count overhead space =
-    cond (nat_le 1 count && nat_le count 256) (cond (nat_le (count + overhead) space) (Ok (count + overhead)) (Err ShortBuffer)) (Err ParamCount)
+    if nat_le 1 count && nat_le count 256
+    then (if nat_le (count + overhead) space then Ok (count + overhead) else Err ShortBuffer)
+    else Err ParamCount
 
 -- The buffer after: the frame at its front and the rest as it was, or all as it was after a refusal.
 abbrev pub buffer_after : Result ℕ Refusal → List ℕ → List ℕ → List ℕ
-buffer_after r bytes buffer = cond (is_ok r) (bytes ++ drop (length bytes) buffer) buffer
+buffer_after r bytes buffer = if is_ok r then bytes ++ drop (length bytes) buffer else buffer
 
 -- A buffer with a part copied into it from place `at` on.
 abbrev pub written_at : List ℕ → ℕ → List ℕ → List ℕ

@@ -1,12 +1,12 @@
 -- What the bytes of a frame say to whoever gets them. Assumes nothing.
-use Rattle.std.specs.Prelude.{ℕ, ◌+◌, ◌-◌, ◌*◌, Bool, cond, ◌&&◌, List, length, take, drop, Some, None, Ok, Err, Option, Result, ◌==◌, nat_le, slice_index}
+use Rattle.std.specs.Prelude.{ℕ, ◌+◌, ◌-◌, ◌*◌, Bool, if◌then◌else◌, ◌&&◌, List, length, take, drop, Some, None, Ok, Err, Option, Result, ◌==◌, nat_le, slice_index}
 use Rattle.crc16.specs.Crc.{crc_of}
-use Rattle.std.specs.Option.{option_map}
-use Rattle.wire.specs.declared.message.Received.{Received}
-use Rattle.wire.specs.declared.message.Received.TheVariants.{Intact, Damaged}
+use Rattle.wire.specs.declared.message.Message.{Message}
 use Rattle.wire.specs.declared.message.Reply.{Reply}
 use Rattle.wire.specs.declared.refusal.Refusal.{Refusal}
 use Rattle.wire.specs.declared.refusal.Refusal.TheVariants.{NotAReply, WrongCrc}
+use Rattle.wire.specs.declared.unread.Unread.{Unread}
+use Rattle.wire.specs.declared.unread.Unread.TheVariants.{NoFrame, Damaged}
 use Rattle.wire.specs.Fields.{Fields, ReplyFields, fields_of, reply_fields_of}
 use Rattle.wire.specs.Frames.{param_count}
 
@@ -29,7 +29,7 @@ fields_in bs = record { command = slice_index bs 1; address = number_at bs 2; pa
 
 -- The fields of bytes that have the shape of such a frame.
 abbrev pub shaped_fields : ℕ → ℕ → List ℕ → Option Fields
-shaped_fields start overhead bs = cond (shaped start overhead bs) (Some (fields_in bs)) None
+shaped_fields start overhead bs = if shaped start overhead bs then Some (fields_in bs) else None
 
 -- The last two bytes are the CRC of the bytes before them.
 abbrev pub crc_right : List ℕ → Bool
@@ -39,9 +39,9 @@ crc_right bs = crc_of (take (length bs - 2) bs) == number_at bs (length bs - 2)
 -- refused first, then a CRC that differs.
 abbrev pub unpacked : List ℕ → Result ReplyFields Refusal
 unpacked bs =
-    cond (shaped 0x2E 8 bs)
-    (cond (crc_right bs) (Ok (record { fields = fields_in bs; ack = slice_index bs (length bs - 3) })) (Err WrongCrc))
-    (Err NotAReply)
+    if shaped 0x2E 8 bs
+    then (if crc_right bs then Ok (record { fields = fields_in bs; ack = slice_index bs (length bs - 3) }) else Err WrongCrc)
+    else Err NotAReply
 
 -- What a whole frame says: its fields, or, where its CRC differs, only COMMAND and ADDRESS, which a reply repeats.
 pub data FrameRead : Type 0 where
@@ -52,9 +52,9 @@ pub data FrameRead : Type 0 where
 -- have its shape.
 abbrev pub frame_in : (start overhead : ℕ) → List ℕ → Option FrameRead
 frame_in start overhead bs =
-    cond (shaped start overhead bs)
-    (Some (cond (crc_right bs) (intact (fields_in bs)) (damaged (slice_index bs 1) (number_at bs 2))))
-    None
+    if shaped start overhead bs
+    then Some (if crc_right bs then intact (fields_in bs) else damaged (slice_index bs 1) (number_at bs 2))
+    else None
 
 -- What the interface reads in the bytes of a command.
 abbrev pub command_in : List ℕ → Option FrameRead
@@ -65,11 +65,8 @@ abbrev pub reply_result : Result Reply Refusal → Result ReplyFields Refusal
 reply_result (Ok r) = Ok (reply_fields_of r)
 reply_result (Err e) = Err e
 
--- What the code's `Received` says, as plain values.
-abbrev pub read_as : Received → FrameRead
-read_as (Intact m) = intact (fields_of m)
-read_as (Damaged command address) = damaged command address
-
 -- The result of the code's `read_command`, as plain values.
-abbrev pub command_result : Option Received → Option FrameRead
-command_result o = option_map read_as o
+abbrev pub command_result : Result Message Unread → Option FrameRead
+command_result (Ok m) = Some (intact (fields_of m))
+command_result (Err NoFrame) = None
+command_result (Err (Damaged command address)) = Some (damaged command address)

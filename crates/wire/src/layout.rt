@@ -1,32 +1,53 @@
 ghost use Rattle.std.specs.Prelude.{◌≡◌, ◌≤◌};
-ghost use Rattle.wire.specs.Frames.{param_count, param_len};
-
-// The first byte of a frame that a PC sends.
-pub(crate) const COMMAND_START: u8 = 0x2F;
-
-// The first byte of a frame that the interface sends.
-pub(crate) const REPLY_START: u8 = 0x2E;
+ghost use Rattle.wire.specs.Frames.{overhead_with, param_count, param_len, start_with};
 
 // How many bytes stand before the parameter: START, COMMAND, ADDRESS high and low, PARAM_LEN.
 pub(crate) const HEADER: usize = 5;
 
-// How many bytes a command has besides its parameter: the header and the CRC.
-pub(crate) const COMMAND_OVERHEAD: usize = 7;
+// What tells a command from a reply.
+#[derive(Clone, Copy, Debug, PartialEq, Eq)]
+pub(crate) struct Form {
+    // the first byte
+    pub start: u8,
+    // how many bytes there are besides the parameter
+    pub overhead: usize,
+    ghost least: { 7 ≤ overhead },
+    ghost most: { overhead ≤ 8 },
+}
 
-// How many bytes a reply has besides its parameter: the header, the ACK and the CRC.
-pub(crate) const REPLY_OVERHEAD: usize = 8;
+// What a PC sends: besides its parameter it has the header and the CRC.
+pub(crate) const COMMAND: Form = Form {
+    start: 0x2F,
+    overhead: 7,
+};
 
-// How many parameter bytes PARAM_LEN announces.
+// What the interface sends: it has an ACK before its CRC, too.
+pub(crate) const REPLY: Form = Form {
+    start: 0x2E,
+    overhead: 8,
+};
+
+impl Form {
+    // That of a reply, which has an ACK, or of a command, which has none.
+    pub(crate) fn with(ack: Option<u8>) -> Form
+        ensures start { result.start ≡ start_with ack }
+        ensures overhead { result.overhead ≡ overhead_with ack }
+    {
+        if ack.is_some() { REPLY } else { COMMAND }
+    }
+}
+
+// How many parameter bytes PARAM_LEN announces. No `From`: the byte has no type of its own, and 0 stands for 256.
 pub fn count_of(len: u8) -> usize
     ensures { result ≡ param_count len }
 {
     match len {
         0 => 256,
-        n => n as usize,
+        n => usize::from(n),
     }
 }
 
-// PARAM_LEN for 1 to 256 parameter bytes.
+// PARAM_LEN for 1 to 256 parameter bytes. The `as` loses nothing; `try_from` would hide that 256 is meant.
 pub(crate) fn len_of(count: usize) -> u8
     requires { count ≤ 256 }
     ensures { result ≡ param_len count }

@@ -6,13 +6,15 @@ mod layout;
 mod message;
 mod read;
 mod refusal;
+mod unread;
 mod write;
 
-pub use ack::Ack;
+pub use ack::{Ack, UnknownAck};
 pub use layout::count_of;
-pub use message::{Message, Received, Reply};
+pub use message::{Message, Reply};
 pub use read::{read_command, unpack};
 pub use refusal::Refusal;
+pub use unread::Unread;
 pub use write::{pack, write_reply};
 
 // Examples as the protocol prints them, and the edges.
@@ -38,10 +40,8 @@ mod tests {
     #[test]
     fn short_buffer(rt: HostRuntime) {
         let mut buffer = [0xAA; 7];
-        match pack(TEST_ALIVE, &mut buffer) {
-            Ok(_) => assert!(rt; false),
-            Err(refusal) => assert_eq!(rt; refusal.number(), 23),
-        }
+        assert_eq!(rt; pack(TEST_ALIVE, &mut buffer), Err(Refusal::ShortBuffer));
+        assert_eq!(rt; u8::from(Refusal::ShortBuffer), 23);
         assert!(rt; buffer == [0xAA; 7]);
     }
 
@@ -53,10 +53,8 @@ mod tests {
             address: 0x0000,
             param: &[],
         };
-        match pack(none, &mut [0xAA; 1]) {
-            Ok(_) => assert!(rt; false),
-            Err(refusal) => assert_eq!(rt; refusal.number(), 25),
-        }
+        assert_eq!(rt; pack(none, &mut [0xAA; 1]), Err(Refusal::ParamCount));
+        assert_eq!(rt; u8::from(Refusal::ParamCount), 25);
     }
 
     #[test]
@@ -70,9 +68,15 @@ mod tests {
     #[test]
     fn command_read(rt: HostRuntime) {
         let intact = read_command(&[0x2F, 0x30, 0x00, 0x00, 0x01, 0x00, 0xCF, 0xD4]);
-        assert!(rt; matches!(intact, Some(Received::Intact(_))));
+        assert_eq!(rt; intact, Ok(TEST_ALIVE));
         let damaged = read_command(&[0x2F, 0x30, 0x00, 0x00, 0x01, 0x00, 0xCF, 0xD5]);
-        assert!(rt; matches!(damaged, Some(Received::Damaged { .. })));
+        assert_eq!(rt;
+            damaged,
+            Err(Unread::Damaged {
+                command: 0x30,
+                address: 0x0000
+            })
+        );
     }
 
     // PARAM_LEN 00 at both ends: 263 bytes of a command, 264 of a reply.
@@ -86,12 +90,9 @@ mod tests {
         let mut command = [0; 263];
         assert!(rt; pack(message, &mut command).is_ok());
         assert_eq!(rt; command[4], 0x00);
-        assert!(rt; matches!(read_command(&command), Some(Received::Intact(_))));
+        assert_eq!(rt; read_command(&command), Ok(message));
         let mut reply = [0; 264];
         assert!(rt; write_reply(message, Ack::GeneralError, &mut reply).is_ok());
-        match unpack(&reply) {
-            Ok(taken) => assert!(rt; taken.ack == 0x0F && taken.message.param.len() == 256),
-            Err(_) => assert!(rt; false),
-        }
+        assert_eq!(rt; unpack(&reply), Ok(Reply { message, ack: 0x0F }));
     }
 }

@@ -1,7 +1,7 @@
 // What a frame carries besides its START, PARAM_LEN and CRC. The parameter is lent.
 
 // What a command and a reply have in common.
-#[derive(Clone, Copy)]
+#[derive(Clone, Copy, Debug, PartialEq, Eq)]
 pub struct Message<'a> {
     pub command: u8,
     pub address: u16,
@@ -9,17 +9,8 @@ pub struct Message<'a> {
 }
 
 // A reply as the PC gets it; its ACK may be any byte.
-#[derive(Clone, Copy)]
+#[derive(Clone, Copy, Debug, PartialEq, Eq)]
 pub struct Reply<'a> {
     pub message: Message<'a>,
     pub ack: u8,
-}
-
-// A whole command frame as the interface gets it.
-#[derive(Clone, Copy)]
-pub enum Received<'a> {
-    // its CRC is right
-    Intact(Message<'a>),
-    // its CRC differs: a reply repeats these two, and nothing else of it is of use
-    Damaged { command: u8, address: u16 },
 }

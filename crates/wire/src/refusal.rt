@@ -1,38 +1,45 @@
-ghost use Rattle.std.specs.Prelude.{◌≡◌};
-ghost use Rattle.wire.specs.Codes.{refusal_number};
+ghost use Rattle.std.specs.Prelude.{◌≡◌, Some};
+ghost use Rattle.wire.specs.Codes.{refusal_number, refusal_text};
+
+use std::error::Error;
+use std::fmt;
 
 // Why a call was refused. A refused call has altered nothing.
-#[derive(Clone, Copy)]
+#[derive(Clone, Copy, Debug, PartialEq, Eq)]
 pub enum Refusal {
     // a byte came while a reply waits to be collected
-    ReplyWaiting,
+    ReplyWaiting = 21,
     // no reply waits to be collected
-    NoReply,
+    NoReply = 22,
     // the caller's buffer is shorter than what goes into it
-    ShortBuffer,
+    ShortBuffer = 23,
     // the bank has no such channel
-    NoChannel,
+    NoChannel = 24,
     // no parameter byte, or more than 256
-    ParamCount,
+    ParamCount = 25,
     // too short for a reply, begun otherwise, or not as long as its PARAM_LEN says
-    NotAReply,
+    NotAReply = 26,
     // the CRC is not that of the bytes before it
-    WrongCrc,
+    WrongCrc = 27,
 }
 
-impl Refusal {
-    // Its number.
-    pub fn number(self) -> u8
-        ensures { result ≡ refusal_number self }
-    {
-        match self {
-            Refusal::ReplyWaiting => 21,
-            Refusal::NoReply => 22,
-            Refusal::ShortBuffer => 23,
-            Refusal::NoChannel => 24,
-            Refusal::ParamCount => 25,
-            Refusal::NotAReply => 26,
-            Refusal::WrongCrc => 27,
-        }
+// Its number.
+impl From<Refusal> for u8 {
+    ghost from_gives = { λ refusal number. number ≡ refusal_number refusal };
+
+    fn from(refusal: Refusal) -> u8 {
+        refusal as u8
     }
 }
+
+// As every program answers it: `!` and its number.
+impl fmt::Display for Refusal {
+    ghost output = { λ refusal. Some (refusal_text refusal) };
+
+    fn fmt<W: fmt::Write>(&self, f: &mut fmt::Formatter<W>) -> fmt::Result {
+        let number = u8::from(*self);
+        write!(f, "!{number}")
+    }
+}
+
+impl Error for Refusal {}

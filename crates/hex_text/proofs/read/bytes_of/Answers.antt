@@ -1,11 +1,13 @@
-use Rattle.std.proofs.Common.{◌≡◌, ◌≤◌, length, get_or, vec_items, refl, rules}
-use Rattle.hex_text.specs.Hex.{bytes_spelled}
-use Rattle.hex_text.proofs.Digits.{read_more}
+use Rattle.std.proofs.Common.{◌≡◌, ◌∙◌, length, get_or, arith, rules}
+use Rattle.hex_text.proofs.Reading.{read_more}
 use Rattle.hex_text.proofs.read.bytes_of.Goals as goal
 
-pub loop-rest-preserved : goal.loop-rest-preserved
-loop-rest-preserved c =
-    let long : 3 ≤ length c.loop-rest.rest.now = search rules in
-    let blank : get_or c.loop-rest.rest.now 0 0 ≡ 32 = search rules in
-    read_more c.loop-rest.rest.now _ (vec_items c.loop-rest.bytes) (vec_items c.push.new.self) c.in-Some.byte (bytes_spelled c.args.text.now)
-    long blank c.in-Some.ensures refl c.in_ok-push.ensures.items c.loop-rest.invariant
+pub loop-chunk-preserved : goal.loop-chunk-preserved
+loop-chunk-preserved c =
+    let chunk = c.in-Some.chunk.now in
+    let steps = c.in-Some.ensures.steps in
+    let three : length chunk ≡ 3 = omega arith in
+    let blank : get_or chunk 0 0 ≡ 32 = search rules in (
+      steps.0 ∙ c.loop-chunk.invariant.0,
+      read_more _ chunk _ _ _ c.in-Some-byte_of.byte _ steps.1.0 three blank c.in-Some-byte_of.ensures c.in_ok-push.ensures.items c.loop-chunk.invariant.1,
+    )

@@ -1,11 +1,10 @@
-use Rattle.std.proofs.Common.{◌≡◌, ◌++◌, length, vec_items}
+use Rattle.std.proofs.Common.{◌≡◌, ◌++◌, vec_items}
 use Rattle.std.specs.Option.{option_map}
+use Rattle.std.specs.Slice.Iter.{chunks_rest, chunks_size}
 use Rattle.hex_text.specs.Hex.{bytes_spelled}
 use Rattle.hex_text.proofs.read.bytes_of.Given as goal
 
 -- the bytes so far, before those that the rest spells
-abbrev pub invariant-loop-rest : goal.invariant-loop-rest
-invariant-loop-rest l = option_map (λ bs. vec_items l.bytes ++ bs) (bytes_spelled l.rest) ≡ bytes_spelled l.text
-
-abbrev pub decreases-loop-rest : goal.decreases-loop-rest
-decreases-loop-rest l = length l.rest
+abbrev pub invariant-loop-chunk : goal.invariant-loop-chunk
+invariant-loop-chunk l =
+    (chunks_size l.chunk-iterator ≡ 3) × (option_map (λ bs. vec_items l.bytes ++ bs) (bytes_spelled (chunks_rest l.chunk-iterator)) ≡ bytes_spelled l.text)
