@@ -1,5 +1,5 @@
 -- Attempts leave what torn writes leave, so the retry law of blocks is theirs. Assumes nothing.
-use Rattle.std.proofs.Common.{◌≡◌, ℕ, ◌≤◌, Bool, true, false, ltb, leb, List, [], ◌∷◌, length, take, refl, ap, ◌∙◌, ap₂}
+use Rattle.std.proofs.Common.{◌≡◌, ℕ, ◌≤◌, Bool, true, false, nat_le, nat_lt, List, [], ◌∷◌, length, take, refl, ap, ◌∙◌}
 use Rattle.std.proofs.lemmas.List.{take_all}
 use Rattle.std.proofs.lemmas.Bool.{and_parts, cond_both, cond-true, leb-true}
 use Rattle.byte_rows.specs.Bytes.{Bytes}
@@ -15,73 +15,53 @@ use Rattle.attempts.specs.Attempts.{Retry, attempts, roused}
 
 -- ---- what a change of power or memory leaves
 
-memory_power : (space : Space) (n : ℕ) (b : Bool) (c : Channel) → memory space (with_power n b c) ≡ memory space c
-memory_power Flash n b c = refl
-memory_power Eeprom n b c = refl
+-- what a memory holds, and the rule by which it lands
+abbrev held : Space → Channel → List ℕ × (ℕ → ℕ → ℕ)
+held space c = (memory space c, rule_of space c)
 
-rule_power : (space : Space) (n : ℕ) (b : Bool) (c : Channel) → rule_of space (with_power n b c) ≡ rule_of space c
-rule_power Flash n b c = refl
-rule_power Eeprom n b c = refl
+held_power : (space : Space) (n : ℕ) (b : Bool) (c : Channel) → held space (with_power n b c) ≡ held space c
+held_power Flash n b c = refl
+held_power Eeprom n b c = refl
 
-memory_set : (space : Space) (os : List ℕ) (c : Channel) → memory space (with_memory space os c) ≡ os
-memory_set Flash os c = refl
-memory_set Eeprom os c = refl
+held_set : (space : Space) (os : List ℕ) (c : Channel) → held space (with_memory space os c) ≡ (os, rule_of space c)
+held_set Flash os c = refl
+held_set Eeprom os c = refl
 
-rule_set : (space : Space) (os : List ℕ) (c : Channel) → rule_of space (with_memory space os c) ≡ rule_of space c
-rule_set Flash os c = refl
-rule_set Eeprom os c = refl
-
-memory_roused : (space : Space) (units : ℕ) (c : Channel) → memory space (roused units c) ≡ memory space c
-memory_roused space units c =
-    cond_both (ltb 0 units) (with_power units true (with_power units false c)) (with_power units false c) (λ d. memory space d ≡ memory space c)
-    (λ _. memory_power space units true (with_power units false c) ∙ memory_power space units false c)
-    (λ _. memory_power space units false c)
-
-rule_roused : (space : Space) (units : ℕ) (c : Channel) → rule_of space (roused units c) ≡ rule_of space c
-rule_roused space units c =
-    cond_both (ltb 0 units) (with_power units true (with_power units false c)) (with_power units false c) (λ d. rule_of space d ≡ rule_of space c)
-    (λ _. rule_power space units true (with_power units false c) ∙ rule_power space units false c)
-    (λ _. rule_power space units false c)
+held_roused : (space : Space) (units : ℕ) (c : Channel) → held space (roused units c) ≡ held space c
+held_roused space units c =
+    let asleep = with_power units false c in
+    cond_both (nat_lt 0 units) (with_power units true asleep) asleep (λ d. held space d ≡ held space c)
+    (λ _. held_power space units true asleep ∙ held_power space units false c)
+    (λ _. held_power space units false c)
 
 -- what a write leaves that reaches its range
 abbrev whole : Space → ℕ → List ℕ → Channel → Channel
 whole space start vs c = spent (length vs) (programmed (rule_of space c) space start vs c)
 
-memory_whole : (space : Space) (start : ℕ) (vs : List ℕ) (c : Channel) →
-    memory space (whole space start vs c) ≡ landed (rule_of space c) start (take c.supply vs) (memory space c)
-memory_whole space start vs c =
+held_whole : (space : Space) (start : ℕ) (vs : List ℕ) (c : Channel) →
+    held space (whole space start vs c) ≡ (landed (rule_of space c) start (take c.supply vs) (memory space c), rule_of space c)
+held_whole space start vs c =
     let os = landed (rule_of space c) start (take c.supply vs) (memory space c) in
-    memory_power space _ _ (with_memory space os c) ∙ memory_set space os c
-
-rule_whole : (space : Space) (start : ℕ) (vs : List ℕ) (c : Channel) → rule_of space (whole space start vs c) ≡ rule_of space c
-rule_whole space start vs c =
-    let os = landed (rule_of space c) start (take c.supply vs) (memory space c) in
-    rule_power space _ _ (with_memory space os c) ∙ rule_set space os c
+    held_power space _ _ (with_memory space os c) ∙ held_set space os c
 
 -- ---- attempts are torn tries
 
 -- d is what torn tries of the block leave of c
 abbrev Torn : Space → ℕ → List ℕ → Channel → Channel → Type 0
 Torn space start vs c d =
-    (ks : List ℕ) × ((memory space d ≡ torn_tries (rule_of space c) start vs ks (memory space c)) × (rule_of space d ≡ rule_of space c))
+    (ks : List ℕ) × (held space d ≡ (torn_tries (rule_of space c) start vs ks (memory space c), rule_of space c))
 
 one_more : (space : Space) (start : ℕ) (vs : List ℕ) (c d : Channel) → Torn space start vs c d → Torn space start vs c (written space start vs d)
 one_more space start vs c d t =
     cond_both (reached space start (length vs) d) (whole space start vs d) d (Torn space start vs c)
-    (λ _. (
-      d.supply ∷ t.0,
-      (
-        memory_whole space start vs d ∙ ap₂ (λ f os. landed f start (take d.supply vs) os) t.1.1 t.1.0,
-        rule_whole space start vs d ∙ t.1.1,
-      ),
-    ))
+    (λ _. (d.supply ∷ t.0, held_whole space start vs d ∙ ap (λ h. (landed h.1 start (take d.supply vs) h.0, h.1)) t.1))
     (λ _. t)
 
 roused_torn : (space : Space) (start : ℕ) (vs : List ℕ) (c d : Channel) (units : ℕ) → Torn space start vs c d → Torn space start vs c (roused units d)
-roused_torn space start vs c d units t = (t.0, (memory_roused space units d ∙ t.1.0, rule_roused space units d ∙ t.1.1))
+roused_torn space start vs c d units t = (t.0, held_roused space units d ∙ t.1)
 
 torn : (space : Space) (start : ℕ) (vs before : List ℕ) (c : Channel) → Torn space start vs c (attempts space start vs before c)
-torn space start vs [] c = ([], (refl, refl))
+torn space start vs [] c = ([], refl)
 torn space start vs (units ∷ before) c =
     let d = attempts space start vs before c in
     one_more space start vs c (roused units d) (roused_torn space start vs c d units (torn space start vs before c))
@@ -104,11 +84,11 @@ pub retry : (space : Space) (start : ℕ) (vs : List ℕ) → Bytes vs → Retry
 retry space start vs bytes units before c sound answered =
     let d = roused units (attempts space start vs before c) in
     let f = rule_of space c in
-    let parts = and_parts (reached space start (length vs) d) (leb (length vs) d.supply) answered in
+    let parts = and_parts (reached space start (length vs) d) (nat_le (length vs) d.supply) answered in
     let enough : length vs ≤ d.supply = leb-true (length vs) d.supply parts.1 in
     let t = roused_torn space start vs c (attempts space start vs before c) units (torn space start vs before c) in
     ap (memory space) (cond-true (reached space start (length vs) d) (whole space start vs d) d parts.0)
-    ∙ memory_whole space start vs d
+    ∙ ap (λ h. h.0) (held_whole space start vs d)
     ∙ ap (λ ws. landed (rule_of space d) start ws (memory space d)) (take_all d.supply vs enough)
-    ∙ ap₂ (λ g os. landed g start vs os) t.1.1 t.1.0
+    ∙ ap (λ h. landed h.1 start vs h.0) t.1
     ∙ retried f (rule_on_bytes space c sound) (rule_idempotent space c sound) start vs t.0 (memory space c) bytes (memory_bytes space c sound)

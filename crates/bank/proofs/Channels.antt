@@ -4,10 +4,10 @@ use native.Mathlib.Nat.{sub-zero, suc-sub-suc}
 use Rattle.std.specs.Option.{option_map}
 use Rattle.bank.specs.Channels.{AllSound, Channel, alter, ask}
 
-pub alter-alter : (g h : Channel → Channel) (cs : List Channel) (i : ℕ) → alter g (alter h cs i) i ≡ alter (λ c. g (h c)) cs i
-alter-alter g h [] i = refl
-alter-alter g h (c ∷ cs) zero = refl
-alter-alter g h (c ∷ cs) (suc i) = ap (λ xs. c ∷ xs) (alter-alter g h cs i)
+pub alter_alter : (g h : Channel → Channel) (cs : List Channel) (i : ℕ) → alter g (alter h cs i) i ≡ alter (λ c. g (h c)) cs i
+alter_alter g h [] i = refl
+alter_alter g h (c ∷ cs) zero = refl
+alter_alter g h (c ∷ cs) (suc i) = ap (λ xs. c ∷ xs) (alter_alter g h cs i)
 
 -- ---- lists put together and cut
 
@@ -112,7 +112,3 @@ pub at_map : (h : Channel → Channel) (cs : List Channel) (i : ℕ) → ask Non
 at_map h [] i = refl
 at_map h (c ∷ cs) zero = refl
 at_map h (c ∷ cs) (suc i) = at_map h cs i
-
-pub length-map : (h : Channel → Channel) (cs : List Channel) → length (map h cs) ≡ length cs
-length-map h [] = refl
-length-map h (c ∷ cs) = ap suc (length-map h cs)

@@ -1,5 +1,5 @@
 -- What each call does to the channel that it names, and what it answers. Assumes nothing.
-use Rattle.std.specs.Prelude.{ℕ, ◌+◌, ◌-◌, Bool, true, false, cond, ◌&&◌, List, length, take, drop, nat_le, nat_lt}
+use Rattle.std.specs.Prelude.{ℕ, ◌+◌, ◌-◌, Bool, true, false, if◌then◌else◌, ◌&&◌, List, length, take, drop, nat_le, nat_lt}
 use Rattle.flash.specs.Rules.{replacing}
 use Rattle.flash.specs.Blocks.{blank, landed}
 use Rattle.bank.specs.declared.space.Space.{Space}
@@ -18,11 +18,11 @@ powered c = nat_lt 0 c.supply
 
 -- After enter: awake, if it has supply.
 abbrev pub entered : Channel → Channel
-entered c = cond (powered c) (with_power c.supply true c) c
+entered c = if powered c then with_power c.supply true c else c
 
 -- After sleep: asleep, if it has supply.
 abbrev pub put_to_sleep : Channel → Channel
-put_to_sleep c = cond (powered c) (with_power c.supply false c) c
+put_to_sleep c = if powered c then with_power c.supply false c else c
 
 -- After a new supply of n units: asleep.
 abbrev pub supplied : ℕ → Channel → Channel
@@ -53,7 +53,7 @@ reached space start count c = c.awake && inside (length (memory space c)) start 
 -- The caller's buffer after a read that fills it: the bytes of the range, or what it held where no answer comes.
 abbrev pub read_into : Space → ℕ → List ℕ → Channel → List ℕ
 read_into space start buffer c =
-    cond (reached space start (length buffer) c) (take (length buffer) (drop start (memory space c))) buffer
+    if reached space start (length buffer) c then take (length buffer) (drop start (memory space c)) else buffer
 
 -- ---- write and erase
 
@@ -76,8 +76,10 @@ programmed f space start vs c = with_memory space (landed f start (take c.supply
 
 -- After a write: where the target has the range, the values are programmed, each for one unit.
 abbrev pub written : Space → ℕ → List ℕ → Channel → Channel
-written space start vs c = cond (reached space start (length vs) c) (spent (length vs) (programmed (rule_of space c) space start vs c)) c
+written space start vs c =
+    if reached space start (length vs) c then spent (length vs) (programmed (rule_of space c) space start vs c)
+    else c
 
 -- After an erase: where the target has the range of flash, it is set to FF, each byte for one unit.
 abbrev pub erased : ℕ → ℕ → Channel → Channel
-erased start count c = cond (reached Flash start count c) (spent count (programmed replacing Flash start (blank count) c)) c
+erased start count c = if reached Flash start count c then spent count (programmed replacing Flash start (blank count) c) else c

@@ -1,5 +1,5 @@
 -- Which commands there are, in which modes each is valid, and what parameter each takes. Assumes nothing.
-use Rattle.std.specs.Prelude.{ℕ, Bool, true, false, cond, ◌&&◌, ◌||◌, List, length, Some, None, Ok, Err, Option, Result, ◌==◌, nat_le, slice_index}
+use Rattle.std.specs.Prelude.{ℕ, Bool, true, false, if◌then◌else◌, ◌&&◌, ◌||◌, List, length, Some, None, Ok, Err, Option, Result, ◌==◌, nat_le, slice_index}
 use Rattle.std.specs.Option.{option_map}
 use Rattle.bank.specs.declared.mode.Mode.{Mode}
 use Rattle.bank.specs.declared.mode.Mode.TheVariants.{SiC2, SiLBLB, AtmBLB, AtmSK}
@@ -43,54 +43,54 @@ has_eeprom AtmSK = true
 -- The byte stands for a command that is valid in the mode: 30 to 3F but for 36, which was removed, and some only in some modes.
 abbrev pub valid : ℕ → Mode → Bool
 valid code mode =
-    cond (code == 0x36) false
-    (cond (code == 0x38) (erases_all mode)
-    (cond (code == 0x39) (erases_pages mode)
-    (cond (code == 0x3C) (has_c2 mode)
-    (cond (code == 0x3D || code == 0x3E) (has_eeprom mode)
-    (nat_le 0x30 code && nat_le code 0x3F)))))
+    if code == 0x36 then false
+    else if code == 0x38 then erases_all mode
+    else if code == 0x39 then erases_pages mode
+    else if code == 0x3C then has_c2 mode
+    else if code == 0x3D || code == 0x3E then has_eeprom mode
+    else nat_le 0x30 code && nat_le code 0x3F
 
 -- ---- the parameter of each command
 
 -- The byte of a parameter that is one byte.
 abbrev pub byte_in : List ℕ → Option ℕ
-byte_in param = cond (length param == 1) (Some (slice_index param 0)) None
+byte_in param = if length param == 1 then Some (slice_index param 0) else None
 
 -- The channel that a parameter names: one byte, 00 to 07.
 abbrev pub channel_in : List ℕ → Option ℕ
-channel_in param = cond (length param == 1 && nat_le (slice_index param 0) 7) (Some (slice_index param 0)) None
+channel_in param = if length param == 1 && nat_le (slice_index param 0) 7 then Some (slice_index param 0) else None
 
 -- The mode that a parameter names: one byte, 00 to 03.
 abbrev pub mode_in : List ℕ → Option Mode
-mode_in param = cond (length param == 1) (mode_of (slice_index param 0)) None
+mode_in param = if length param == 1 then mode_of (slice_index param 0) else None
 
 -- A command that has nothing to tell, if its parameter is the one byte 00.
 abbrev pub bare : Command → List ℕ → Option Command
-bare command param = cond (length param == 1 && slice_index param 0 == 0) (Some command) None
+bare command param = if length param == 1 && slice_index param 0 == 0 then Some command else None
 
 -- A command whose parameter is its data, if that is 1 to 256 bytes.
 abbrev pub with_data : Command → List ℕ → Option Command
-with_data command param = cond (nat_le 1 (length param) && nat_le (length param) 256) (Some command) None
+with_data command param = if nat_le 1 (length param) && nat_le (length param) 256 then Some command else None
 
 -- The command that a byte and a parameter make, if the parameter has the count and value that the command takes.
 abbrev pub made_by : ℕ → List ℕ → Option Command
 made_by code param =
-    cond (code == 0x30) (bare TestAlive param)
-    (cond (code == 0x31) (bare ProtocolVersion param)
-    (cond (code == 0x32) (bare InterfaceName param)
-    (cond (code == 0x33) (bare InterfaceVersion param)
-    (cond (code == 0x34) (bare Exit param)
-    (cond (code == 0x35) (option_map Reset (channel_in param))
-    (cond (code == 0x37) (option_map InitFlash (channel_in param))
-    (cond (code == 0x38) (bare EraseAll param)
-    (cond (code == 0x39) (option_map ErasePage (byte_in param))
-    (cond (code == 0x3A) (option_map (Read Flash) (byte_in param))
-    (cond (code == 0x3B) (with_data (Write Flash) param)
-    (cond (code == 0x3C) (option_map Reset (channel_in param))
-    (cond (code == 0x3D) (option_map (Read Eeprom) (byte_in param))
-    (cond (code == 0x3E) (with_data (Write Eeprom) param)
-    (cond (code == 0x3F) (option_map SetMode (mode_in param))
-    None))))))))))))))
+    if code == 0x30 then bare TestAlive param
+    else if code == 0x31 then bare ProtocolVersion param
+    else if code == 0x32 then bare InterfaceName param
+    else if code == 0x33 then bare InterfaceVersion param
+    else if code == 0x34 then bare Exit param
+    else if code == 0x35 then option_map Reset (channel_in param)
+    else if code == 0x37 then option_map InitFlash (channel_in param)
+    else if code == 0x38 then bare EraseAll param
+    else if code == 0x39 then option_map ErasePage (byte_in param)
+    else if code == 0x3A then option_map (Read Flash) (byte_in param)
+    else if code == 0x3B then with_data (Write Flash) param
+    else if code == 0x3C then option_map Reset (channel_in param)
+    else if code == 0x3D then option_map (Read Eeprom) (byte_in param)
+    else if code == 0x3E then with_data (Write Eeprom) param
+    else if code == 0x3F then option_map SetMode (mode_in param)
+    else None
 
 -- What a parameter says, or that it is invalid.
 abbrev pub or_invalid_param : {A : Type 0} → Option A → Result A Ack
@@ -99,4 +99,4 @@ or_invalid_param (Some a) = Ok a
 
 -- What is made of a command byte and a parameter in a mode: an invalid command is told before an invalid parameter.
 abbrev pub decoded : Mode → ℕ → List ℕ → Result Command Ack
-decoded mode code param = cond (valid code mode) (or_invalid_param (made_by code param)) (Err ack.InvalidCommand)
+decoded mode code param = if valid code mode then or_invalid_param (made_by code param) else Err ack.InvalidCommand

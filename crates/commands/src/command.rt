@@ -1,7 +1,7 @@
 use bank::{Mode, Space};
 
 // A command with what its parameter says.
-#[derive(Clone, Copy)]
+#[derive(Clone, Copy, Debug, PartialEq, Eq)]
 pub enum Command {
     TestAlive,
     ProtocolVersion,

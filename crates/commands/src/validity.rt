@@ -1,4 +1,5 @@
-// The modes in which those commands are valid that are not valid in all.
+// The modes in which those commands are valid that are not valid in all. Each names a fact of the protocol, for a guard: patterns of command
+// and mode together would have a `_` in ten arms.
 ghost use Rattle.std.specs.Prelude.{◌≡◌};
 ghost use Rattle.commands.specs.Commands.{erases_all, erases_pages, has_c2, has_eeprom};
 
@@ -22,7 +23,7 @@ pub(crate) fn erases_pages(mode: Mode) -> bool
 pub(crate) fn has_c2(mode: Mode) -> bool
     ensures { result ≡ has_c2 mode }
 {
-    matches!(mode, Mode::SiC2)
+    mode == Mode::SiC2
 }
 
 // Whether there may be EEPROM.

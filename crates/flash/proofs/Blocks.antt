@@ -1,68 +1,24 @@
 -- Landing a block step by step, whole, torn and tried again. Assumes nothing but the laws of the rule.
-use Rattle.std.proofs.Common.{◌≡◌, ℕ, zero, suc, ◌+◌, ◌-◌, ◌<◌, ◌≤◌, min, List, [], ◌∷◌, ◌++◌, length, get_or, take, drop, set, replicate, sym, refl, ap, ◌∙◌, ap₂, add-one, arith}
-use native.Mathlib.Nat.{min-le_left}
-use Rattle.std.proofs.lemmas.List.{get_or-append_right, length-drop, length-replicate, length-take-le, set-append_right, take-replicate}
+use Rattle.std.proofs.Common.{◌≡◌, ℕ, zero, suc, ◌+◌, ◌<◌, ◌≤◌, List, [], ◌∷◌, ◌++◌, length, get_or, take, drop, set, replicate, refl, ap, ◌∙◌, ap₂, arith}
+use Rattle.std.proofs.lemmas.Grind.{common_steps}
 use Rattle.byte_rows.specs.Bytes.{Bytes}
 use Rattle.byte_rows.proofs.Bytes.{bytes_none, bytes_cons, bytes_append, bytes_take, bytes_drop}
 use Rattle.flash.specs.Rules.{replacing, OnBytes, OnBlank, Idempotent}
 use Rattle.flash.proofs.Rules.{replacing_idempotent, replacing_on_bytes}
 use Rattle.flash.specs.Blocks.{blank, blanked, land_all, landed, torn_tries}
 
--- ---- one byte more
+-- a value landed in the first cell, and then the others from the next cell upward
+pub landed_more : (f : ℕ → ℕ → ℕ) (start v : ℕ) (vs os : List ℕ) → start < length os →
+    landed f (start + 1) vs (set os start (f (get_or os start 0) v)) ≡ landed f start (v ∷ vs) os
+landed_more f start v vs os h = grind (arith, common_steps)
 
-land_none : (f : ℕ → ℕ → ℕ) (os : List ℕ) → land_all f os [] ≡ os
-land_none f [] = refl
-land_none f (o ∷ os) = refl
-
-land_more : (f : ℕ → ℕ → ℕ) (os vs : List ℕ) (i : ℕ) → i < length os → i < length vs →
-    set (land_all f os (take i vs)) i (f (get_or os i 0) (get_or vs i 0)) ≡ land_all f os (take (suc i) vs)
-land_more f [] vs i h k = absurd (omega arith)
-land_more f (o ∷ os) [] i h k = absurd (omega arith)
-land_more f (o ∷ os) (v ∷ vs) zero h k = ap (λ xs. f o v ∷ xs) (sym (land_none f os))
-land_more f (o ∷ os) (v ∷ vs) (suc i) h k = ap (λ xs. f o v ∷ xs) (land_more f os vs i (omega arith) (omega arith))
-
-land_keeps : (f : ℕ → ℕ → ℕ) (os vs : List ℕ) (i : ℕ) → get_or (land_all f os (take i vs)) i 0 ≡ get_or os i 0
-land_keeps f [] vs i = refl
-land_keeps f (o ∷ os) [] zero = refl
-land_keeps f (o ∷ os) [] (suc i) = refl
-land_keeps f (o ∷ os) (v ∷ vs) zero = refl
-land_keeps f (o ∷ os) (v ∷ vs) (suc i) = land_keeps f os vs i
-
-pub landed_none : (f : ℕ → ℕ → ℕ) (start : ℕ) (vs os : List ℕ) → os ≡ landed f start (take 0 vs) os
-landed_none f zero vs os = sym (land_none f os)
-landed_none f (suc n) vs [] = refl
-landed_none f (suc n) vs (o ∷ os) = ap (λ xs. o ∷ xs) (landed_none f n vs os)
-
--- the byte that a loop lands next is one that no earlier turn has touched
-pub landed_more : (f : ℕ → ℕ → ℕ) (start : ℕ) (vs os ms : List ℕ) (i : ℕ) → start + i < length os → i < length vs →
-    ms ≡ landed f start (take i vs) os → set ms (start + i) (f (get_or ms (start + i) 0) (get_or vs i 0)) ≡ landed f start (take (i + 1) vs) os
-landed_more f start vs os ms i h k e =
-    let front = take start os in
-    let n : length front ≡ start = length-take-le start os (omega arith) in
-    let more = land_all f (drop start os) (take i vs) in
-    let d : start + i - start ≡ i = omega arith in
-    let old : get_or ms (start + i) 0 ≡ get_or (drop start os) i 0
-    = ap (λ xs. get_or xs (start + i) 0) e ∙ get_or-append_right front more start (start + i) 0 n (omega arith)
-    ∙ ap (λ j. get_or more j 0) d ∙ land_keeps f (drop start os) vs i in
-    let y = f (get_or (drop start os) i 0) (get_or vs i 0) in
-    ap₂ (λ xs x. set xs (start + i) (f x (get_or vs i 0))) e old
-    ∙ set-append_right front more start (start + i) y n (omega arith)
-    ∙ ap (λ j. front ++ set more j y) d
-    ∙ ap (λ xs. front ++ xs) (land_more f (drop start os) vs i (omega (arith, length-drop start os)) k)
-    ∙ ap (λ j. front ++ land_all f (drop start os) (take j vs)) (sym (add-one i))
-
-land_enough : (f : ℕ → ℕ → ℕ) (os vs : List ℕ) (n : ℕ) → (n < length vs → length os ≤ n) → land_all f os (take n vs) ≡ land_all f os vs
-land_enough f [] vs n h = refl
-land_enough f (o ∷ os) [] zero h = refl
-land_enough f (o ∷ os) [] (suc n) h = refl
-land_enough f (o ∷ os) (v ∷ vs) zero h = absurd (omega (arith, h (omega arith)))
-land_enough f (o ∷ os) (v ∷ vs) (suc n) h = ap (λ xs. f o v ∷ xs) (land_enough f os vs n (λ k. omega (arith, h (omega arith))))
-
--- values past the last cell land nowhere
-pub landed_enough : (f : ℕ → ℕ → ℕ) (start : ℕ) (vs os : List ℕ) (n : ℕ) → (n < length vs → length os ≤ start + n) →
-    landed f start (take n vs) os ≡ landed f start vs os
-landed_enough f start vs os n h =
-    ap (λ xs. take start os ++ xs) (land_enough f (drop start os) vs n (λ k. omega (arith, h k, length-drop start os)))
+-- where no value or no cell is left, nothing more lands
+pub landed_end : (f : ℕ → ℕ → ℕ) (start : ℕ) (vs os : List ℕ) → (0 < length vs → length os ≤ start) → landed f start vs os ≡ os
+landed_end f zero vs [] h = refl
+landed_end f zero [] (o ∷ os) h = refl
+landed_end f zero (v ∷ vs) (o ∷ os) h = absurd (omega (arith, h (omega arith)))
+landed_end f (suc start) vs [] h = refl
+landed_end f (suc start) vs (o ∷ os) h = ap (λ xs. o ∷ xs) (landed_end f start vs os (λ k. omega (arith, h k)))
 
 -- ---- over what was landed before
 
@@ -105,7 +61,8 @@ retried f on again start vs [] os c b = refl
 retried f on again start vs (k ∷ ks) os c b =
     let before = torn_tries f start vs ks os in
     over f f start vs (take k vs) before
-    ∙ ap (λ xs. take start before ++ xs) (land_again f again (drop start before) vs k (bytes_drop start before (tries_bytes f on start vs ks os c b)) c)
+    ∙ ap (λ xs. take start before ++ xs)
+    (land_again f again (drop start before) vs k (bytes_drop start before (tries_bytes f on start vs ks os c b)) c)
     ∙ retried f on again start vs ks os c b
 
 land_blank : (f : ℕ → ℕ → ℕ) → OnBlank f → (os vs : List ℕ) → Bytes vs →
@@ -126,12 +83,6 @@ pub blank_bytes : (n : ℕ) → Bytes (blank n)
 blank_bytes zero = bytes_none
 blank_bytes (suc n) = bytes_cons 255 (blank n) (omega arith) (blank_bytes n)
 
--- as many bytes blanked as there are is all blanked that were asked for
-pub blanked_enough : (start n m : ℕ) (os : List ℕ) → m ≡ min n (length os - start) → landed replacing start (take m (blank m)) os ≡ blanked start n os
-blanked_enough start n m os e =
-    let least : m ≤ n = omega (arith, e, min-le_left n (length os - start)) in
-    ap (λ vs. landed replacing start vs os) (take-replicate {X = ℕ} m m 255 (omega arith) ∙ sym (take-replicate {X = ℕ} m n 255 least))
-    ∙ landed_enough replacing start (blank n) os m (λ k. omega (arith, e, k, length-replicate {A = ℕ} n 255))
-
-pub blanked_again : (start n : ℕ) (ks os : List ℕ) → Bytes os → blanked start n (torn_tries replacing start (blank n) ks os) ≡ blanked start n os
+pub blanked_again : (start n : ℕ) (ks os : List ℕ) → Bytes os →
+    blanked start n (torn_tries replacing start (blank n) ks os) ≡ blanked start n os
 blanked_again start n ks os b = retried replacing replacing_on_bytes replacing_idempotent start (blank n) ks os (blank_bytes n) b

@@ -20,7 +20,7 @@ pub trait Landing {
 }
 
 // Programming turns ones into zeros, and never zeros into ones.
-#[derive(Drop)]
+#[derive(Clone, Copy, Debug)]
 pub struct Clearing;
 
 impl Landing for Clearing {
@@ -38,7 +38,7 @@ impl Landing for Clearing {
 }
 
 // Programming sets the value.
-#[derive(Drop)]
+#[derive(Clone, Copy, Debug)]
 pub struct Replacing;
 
 impl Landing for Replacing {

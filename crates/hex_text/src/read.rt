@@ -4,7 +4,7 @@ ghost use Rattle.hex_text.specs.Hex.{byte_value, bytes_spelled, digit_value};
 
 use std::alloc::{AllocError, Global};
 
-// What a digit counts, capital or small.
+// What a digit counts, capital or small. A function of its own for its contract.
 fn value_of(digit: u8) -> Option<u32>
     ensures { result ≡ digit_value digit }
 {

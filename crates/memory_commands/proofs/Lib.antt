@@ -1,1 +1,2 @@
 pub mod Fetching
+pub mod Pages

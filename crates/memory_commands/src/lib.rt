@@ -1,4 +1,5 @@
-// The commands on the memories of the connected target: erase, read and write.
+// The commands on the memories of the connected target: erase, read and write. Session and bank are lent apart, since a command that may not
+// alter one of them says so by its `&`. No answer is ACK 0F; no `From` can say so, since banks know nothing of the wire.
 #![tactic(auto)]
 
 mod erasing;

@@ -1,4 +1,4 @@
-ghost use Rattle.std.specs.Prelude.{◌≡◌, ℕ, List};
+ghost use Rattle.std.specs.Prelude.{◌≡◌};
 ghost use Rattle.commands.specs.declared.command.Command.TheVariants.{Write};
 ghost use Rattle.session.specs.Outcomes.{told};
 ghost use Rattle.session.specs.RuleTable.{performed};
@@ -15,15 +15,14 @@ pub fn write<B: Bank>(
     space: Space,
     address: u16,
     values: &[u8],
-) -> Result<Answer, Ack>
-    ensures answer { (buffer : List ℕ) → told result buffer ≡ (performed (Write space) address values.now session.old (B.Bank.channels bank.old)).answer }
+) -> Result<Answer<'static>, Ack>
+    ensures answer { told result ≡ (performed (Write space) address values.now session.old (B.Bank.channels bank.old)).answer }
     ensures session { session.new ≡ (performed (Write space) address values.now session.old (B.Bank.channels bank.old)).session }
     ensures channels { B.Bank.channels bank.new ≡ (performed (Write space) address values.now session.old (B.Bank.channels bank.old)).channels }
 {
     let start = range(session, bank, space, address, values.len())?;
-    if !bank.write(session.channel, space, start, values) {
-        return Err(Ack::GeneralError);
-    }
+    bank.write(session.channel, space, start, values)
+        .map_err(|_| Ack::GeneralError)?;
     session.cursor = start + values.len();
     Ok(Answer::Done)
 }

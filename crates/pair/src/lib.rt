@@ -7,10 +7,10 @@ ghost use Rattle.pair.specs.PlacesLemmas.{paired_sound};
 
 mod place;
 
-use bank::{Bank, Facts, MAX_CHANNELS, Space};
+use bank::{Bank, Facts, MAX_CHANNELS, NoAnswer, Space};
 use place::Place;
 
-// Any two banks.
+// Any two banks. Banks are not printed or compared.
 #[derive(Drop)]
 pub struct Pair<A, B> {
     pub first: A,
@@ -18,32 +18,34 @@ pub struct Pair<A, B> {
 }
 
 impl<A: Bank, B: Bank> Pair<A, B> {
-    // Which bank answers for a channel.
-    fn locate(&self, channel: usize) -> Place
+    // Which bank answers for a channel: none past the eighth.
+    fn locate(&self, channel: usize) -> Option<Place>
         ensures { result ≡ placed (length (A.Bank.channels self.now.first)) channel }
     {
         let firsts = self.first.count();
         if channel >= MAX_CHANNELS {
-            Place::Outside
+            None
         } else if channel < firsts {
-            Place::First(channel)
+            Some(Place::First(channel))
         } else {
-            Place::Second(channel - firsts)
+            Some(Place::Second(channel - firsts))
         }
     }
 }
 
-// Hands a call on to the bank that answers for the channel, under that bank's own number for it. `$outside` is said past the eighth.
+// Hands a call on to the bank that answers for the channel, under that bank's own number for it. `$outside` is said past the eighth. A
+// closure takes one type of bank, so each call would have to be written twice, and no `dyn Bank` can be made of a type parameter.
 macro_rules! hand_on {
     ($pair:ident, $channel:ident, $call:ident($($argument:expr),*), $outside:expr) => {
         match $pair.locate($channel) {
-            Place::First(i) => $pair.first.$call(i $(, $argument)*),
-            Place::Second(i) => $pair.second.$call(i $(, $argument)*),
-            Place::Outside => $outside,
+            Some(Place::First(i)) => $pair.first.$call(i $(, $argument)*),
+            Some(Place::Second(i)) => $pair.second.$call(i $(, $argument)*),
+            None => $outside,
         }
     };
 }
 
+#[tactic(auto, using(crate::proofs::Pairs::handed_on))]
 impl<A: Bank, B: Bank> Bank for Pair<A, B> {
     ghost channels = { λ p. paired (A.Bank.channels p.first) (B.Bank.channels p.second) };
 
@@ -63,27 +65,39 @@ impl<A: Bank, B: Bank> Bank for Pair<A, B> {
         hand_on!(self, channel, alive(), None)
     }
 
-    fn enter(&mut self, channel: usize) -> bool {
-        hand_on!(self, channel, enter(), false)
+    fn enter(&mut self, channel: usize) -> Result<(), NoAnswer> {
+        hand_on!(self, channel, enter(), Err(NoAnswer))
     }
 
-    fn sleep(&mut self, channel: usize) -> bool {
-        hand_on!(self, channel, sleep(), false)
+    fn sleep(&mut self, channel: usize) -> Result<(), NoAnswer> {
+        hand_on!(self, channel, sleep(), Err(NoAnswer))
     }
 
-    fn read(&self, channel: usize, space: Space, start: usize, buffer: &mut [u8]) -> bool {
-        hand_on!(self, channel, read(space, start, buffer), false)
+    fn read(
+        &self,
+        channel: usize,
+        space: Space,
+        start: usize,
+        buffer: &mut [u8],
+    ) -> Result<(), NoAnswer> {
+        hand_on!(self, channel, read(space, start, buffer), Err(NoAnswer))
     }
 
-    fn write(&mut self, channel: usize, space: Space, start: usize, values: &[u8]) -> bool {
-        hand_on!(self, channel, write(space, start, values), false)
+    fn write(
+        &mut self,
+        channel: usize,
+        space: Space,
+        start: usize,
+        values: &[u8],
+    ) -> Result<(), NoAnswer> {
+        hand_on!(self, channel, write(space, start, values), Err(NoAnswer))
     }
 
-    fn erase(&mut self, channel: usize, start: usize, count: usize) -> bool {
-        hand_on!(self, channel, erase(start, count), false)
+    fn erase(&mut self, channel: usize, start: usize, count: usize) -> Result<(), NoAnswer> {
+        hand_on!(self, channel, erase(start, count), Err(NoAnswer))
     }
 
-    fn supply(&mut self, channel: usize, units: u32) -> bool {
-        hand_on!(self, channel, supply(units), false)
+    fn supply(&mut self, channel: usize, units: u32) -> Result<(), NoAnswer> {
+        hand_on!(self, channel, supply(units), Err(NoAnswer))
     }
 }

@@ -1,11 +1,11 @@
 // The power of a target: how many bytes it can still program, and whether it is awake.
 #![tactic(auto)]
 
-ghost use Rattle.std.specs.Prelude.{nat_lt, cond, false, ◌&&◌, ◌≡◌, min, ◌-◌, ◌<◌, ◌^◌};
+ghost use Rattle.std.specs.Prelude.{nat_lt, if◌then◌else◌, false, ◌&&◌, ◌≡◌, min, ◌-◌, ◌<◌, ◌^◌};
 
 // Supply counts the bytes that a target can still program before its power fails. Without supply it is asleep. Written whole at
 // each change.
-#[derive(Clone, Copy)]
+#[derive(Clone, Copy, Debug, PartialEq, Eq)]
 pub struct Power {
     pub supply: u32,
     pub awake: bool,
@@ -25,11 +25,11 @@ impl Power {
         }
     }
 
-    // Wakes or puts to sleep, if there is supply, and tells whether there is.
+    // Wakes or puts to sleep, if there is supply, and tells whether there is: a fact, which is no failure here, so a `bool`.
     pub fn set_awake(&mut self, awake: bool) -> bool
         ensures answer { result ≡ nat_lt 0 self.old.supply }
         ensures supply { self.new.supply ≡ self.old.supply }
-        ensures awake { self.new.awake ≡ cond (nat_lt 0 self.old.supply) awake self.old.awake }
+        ensures awake { self.new.awake ≡ (if nat_lt 0 self.old.supply then awake else self.old.awake) }
     {
         let supply = self.supply;
         if supply == 0 {
@@ -46,6 +46,7 @@ impl Power {
         ensures supply { self.new.supply ≡ self.old.supply - count }
         ensures awake { self.new.awake ≡ (self.old.awake && nat_lt 0 (self.old.supply - count)) }
     {
+        // Neither `as` loses anything, and `try_from` would branch for what cannot come.
         let units = count.min(self.supply as usize);
         let supply = self.supply - units as u32;
         *self = Power {

@@ -9,16 +9,17 @@ use pair::Pair;
 use powerfail_lines::{Outcome, Request, parse};
 use std::io::{BufRead, BufReader};
 
-// Tries the block on each channel, and prints what came of it. Where the memory has no such range it holds nothing to show.
+// Tries the block on each channel, and prints what came of it. By number, since a bank lends no list of channels. Where the memory has no such
+// range it holds nothing to show.
 fn try_all<B: Bank>(rt: &HostRuntime, bank: &mut B, request: &Request) -> anyhow::Result<()> {
-    let block = request.block.as_slice();
+    let block = &request.block;
     let units = u32::from(request.units);
     for channel in 0..bank.count() {
-        let answered = attempt(bank, channel, request.space, 0, block, units);
+        let answered = attempt(bank, channel, request.space, 0, block, units).is_ok();
         let awake = bank.alive(channel) == Some(true);
         let mut bytes = vec![in rt.alloc(); 0; block.len()]?;
-        let there = look(bank, channel, request.space, 0, bytes.as_mut_slice());
-        let held = if there { bytes.as_slice() } else { &[] };
+        let there = look(bank, channel, request.space, 0, &mut bytes);
+        let held = there.ok().map(|()| bytes.as_slice());
         rt.println(Outcome {
             channel,
             answered,
@@ -33,7 +34,7 @@ fn try_all<B: Bank>(rt: &HostRuntime, bank: &mut B, request: &Request) -> anyhow
 fn serve<B: Bank>(rt: &HostRuntime, bank: &mut B) -> anyhow::Result<()> {
     let heap = rt.alloc();
     for line in BufReader::new(heap, rt.stdin())?.split(heap, b'\n') {
-        match parse(heap, line?.as_slice())? {
+        match parse(heap, &line?)? {
             Some(request) => try_all(rt, bank, &request)?,
             None => rt.println("?")?,
         }

@@ -1,5 +1,5 @@
 -- The lines of powerfail. Assumes nothing.
-use Rattle.std.specs.Prelude.{ℕ, Bool, true, false, cond, ◌&&◌, List, ◌++◌, length, drop, Some, None, vec_items, codes, decimal, Option, ◌==◌, nat_le, slice_index}
+use Rattle.std.specs.Prelude.{ℕ, Bool, true, false, if◌then◌else◌, ◌&&◌, List, ◌++◌, length, drop, Some, None, vec_items, codes, decimal, Option, ◌==◌, nat_le, slice_index}
 use Rattle.bank.specs.declared.space.Space.{Space}
 use Rattle.bank.specs.declared.space.Space.TheVariants.{Flash, Eeprom}
 use Rattle.hex_text.specs.Hex.{byte_value, bytes_spelled, hex_bytes}
@@ -11,14 +11,16 @@ pub record Asked : Type 0 where
   pub units : ℕ
   pub block : List ℕ
 
--- The code's `Request`, if there is one, as a plain record.
-abbrev pub asked_if : Option Request → Option Asked
-asked_if None = None
-asked_if (Some r) = Some (record { space = r.space; units = r.units; block = vec_items r.block })
+-- The code's `Request` as a plain record.
+abbrev pub asked_of : Request → Asked
+asked_of r = record { space = r.space; units = r.units; block = vec_items r.block }
 
 -- The memory that a letter stands for: 102 is f, flash, and 101 is e, EEPROM.
 abbrev pub space_of : ℕ → Option Space
-space_of letter = cond (letter == 102) (Some Flash) (cond (letter == 101) (Some Eeprom) None)
+space_of letter =
+    if letter == 102 then Some Flash
+    else if letter == 101 then Some Eeprom
+    else None
 
 -- A request, if its three parts are there.
 abbrev pub all_parts : Option Space → Option ℕ → Option (List ℕ) → Option Asked
@@ -30,9 +32,9 @@ all_parts (Some s) (Some u) (Some b) = Some (record { space = s; units = u; bloc
 -- What a line asks for: a letter, a blank (32), the supply as two digits, and the block, each byte as two digits after a blank.
 abbrev pub requested : List ℕ → Option Asked
 requested line =
-    cond (nat_le 4 (length line) && slice_index line 1 == 32)
-    (all_parts (space_of (slice_index line 0)) (byte_value (slice_index line 2) (slice_index line 3)) (bytes_spelled (drop 4 line)))
-    None
+    if nat_le 4 (length line) && slice_index line 1 == 32
+    then all_parts (space_of (slice_index line 0)) (byte_value (slice_index line 2) (slice_index line 3)) (bytes_spelled (drop 4 line))
+    else None
 
 -- How an answer is told.
 abbrev pub answer_word : Bool → List ℕ

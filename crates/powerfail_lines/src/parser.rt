@@ -1,15 +1,13 @@
 ghost use Rattle.std.specs.Prelude.{◌≡◌, IfOk};
-ghost use Rattle.powerfail_lines.specs.Lines.{asked_if, requested, space_of};
+ghost use Rattle.std.specs.Option.{option_map};
+ghost use Rattle.powerfail_lines.specs.Lines.{asked_of, requested, space_of};
 
 use crate::request::Request;
 use bank::Space;
 use hex_text::{byte_of, bytes_of};
 use std::alloc::{AllocError, Global};
 
-// How many characters stand before the block: the letter, a blank and two digits.
-const HEAD: usize = 4;
-
-// The memory that a letter stands for.
+// The memory that a letter stands for. No `TryFrom`: both types are of other crates.
 fn space_of(letter: u8) -> Option<Space>
     ensures { result ≡ space_of letter }
 {
@@ -22,22 +20,16 @@ fn space_of(letter: u8) -> Option<Space>
 
 // What a line asks for: a letter for the memory, the supply as two digits after a blank, and the block as bytes.
 pub fn parse(heap: Global, line: &[u8]) -> Result<Option<Request>, AllocError>
-    ensures { IfOk result (λ o. asked_if o ≡ requested line.now) }
+    ensures { IfOk result (λ o. option_map asked_of o ≡ requested line.now) }
 {
-    let [letter, b' ', high, low, ..] = line else {
+    let [letter, b' ', high, low, text @ ..] = line else {
         return Ok(None);
     };
-    let Some(space) = space_of(*letter) else {
+    let (Some(space), Some(units)) = (space_of(*letter), byte_of(*high, *low)) else {
         return Ok(None);
     };
-    let Some(units) = byte_of(*high, *low) else {
-        return Ok(None);
-    };
-    let (_, rest) = line.split_at(HEAD);
-    let Some(block) = bytes_of(heap, rest)? else {
-        return Ok(None);
-    };
-    Ok(Some(Request {
+    let block = bytes_of(heap, text)?;
+    Ok(block.map(|block| Request {
         space,
         units,
         block,

@@ -1,7 +1,7 @@
 use bank::Space;
 
 // A block to write at the start of a memory, with a supply of so many units.
-#[derive(Drop)]
+#[derive(Debug, PartialEq, Eq, Drop)]
 pub struct Request {
     pub space: Space,
     pub units: u8,

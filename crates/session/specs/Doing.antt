@@ -1,5 +1,5 @@
 -- What each command does once all checks before the last have passed. Assumes nothing.
-use Rattle.std.specs.Prelude.{ℕ, ◌+◌, ◌*◌, Bool, true, false, cond, not, ◌&&◌, ◌||◌, List, [], ◌∷◌, ◌++◌, map, length, take, drop, Some, None, Ok, Option, ◌==◌}
+use Rattle.std.specs.Prelude.{ℕ, ◌+◌, ◌*◌, Bool, true, false, if◌then◌else◌, not, ◌&&◌, ◌||◌, List, [], ◌∷◌, ◌++◌, map, length, take, drop, Some, None, Ok, Option, ◌==◌, unwrap_or}
 use Rattle.bank.specs.declared.mode.Mode.{Mode}
 use Rattle.bank.specs.declared.mode.Mode.TheVariants.{SiC2, SiLBLB, AtmBLB, AtmSK}
 use Rattle.bank.specs.declared.space.Space.{Space}
@@ -26,11 +26,6 @@ abbrev pub size_in : (TargetFacts → ℕ) → Option TargetFacts → ℕ
 size_in size None = 0
 size_in size (Some f) = size f
 
--- It is awake.
-abbrev pub is_awake : Option Bool → Bool
-is_awake None = false
-is_awake (Some awake) = awake
-
 -- Mode 0.
 abbrev pub is_sic2 : Mode → Bool
 is_sic2 SiC2 = true
@@ -40,14 +35,14 @@ is_sic2 AtmSK = false
 
 -- Where a read or a write begins: at the address, or, for FFFF in modes 1 to 3, at the cursor.
 abbrev pub start_of : ℕ → Session → ℕ
-start_of address s = cond (address == 0xFFFF && not (is_sic2 s.mode)) s.cursor address
+start_of address s = if address == 0xFFFF && not (is_sic2 s.mode) then s.cursor else address
 
 -- ---- the commands
 
 -- 30: fails only when connected to a target that is asleep.
 abbrev pub alive_tested : Session → List Channel → Outcome
 alive_tested s cs =
-    let awake = is_awake (ask None (λ c. Some c.awake) cs s.channel) in
+    let awake = unwrap_or (ask None (λ c. Some c.awake) cs s.channel) false in
     record { answer = answered_by (not s.connected || awake) nothing; session = s; channels = cs }
 
 -- 31, 32, 33: tell something, and alter nothing.
@@ -56,7 +51,7 @@ saying param s cs = record { answer = Ok param; session = s; channels = cs }
 
 -- 34: in mode 0 every target that has supply is put to sleep; then the session restarts.
 abbrev pub exited : Session → List Channel → Outcome
-exited s cs = record { answer = Ok nothing; session = start; channels = cond (is_sic2 s.mode) (map put_to_sleep cs) cs }
+exited s cs = record { answer = Ok nothing; session = start; channels = if is_sic2 s.mode then map put_to_sleep cs else cs }
 
 -- 3F: sets the mode, ends the connection and replies the mode.
 abbrev pub mode_set : Mode → Session → List Channel → Outcome
@@ -74,13 +69,11 @@ reset i s cs = record {
 -- session is connected, the cursor is 0, and identity and mode are replied.
 abbrev pub connected_to : TargetFacts → Session → List Channel → Outcome
 connected_to f s cs =
-    cond (mode_number f.mode == mode_number s.mode)
-    (record {
+    if mode_number f.mode == mode_number s.mode then record {
       answer = answered_by (ask false powered cs s.channel) (f.identity ++ mode_number f.mode ∷ []);
-      session = cond (ask false powered cs s.channel) (connecting s) s;
+      session = if ask false powered cs s.channel then connecting s else s;
       channels = alter entered cs s.channel;
-    })
-    (refused ack.GeneralError s cs)
+    } else refused ack.GeneralError s cs
 
 -- 37: selects the channel, ends the connection, and connects to the target with these facts.
 abbrev pub initialised : ℕ → Option TargetFacts → Session → List Channel → Outcome
@@ -105,7 +98,7 @@ fetched space from count s cs =
     let there = ask false (reached space from count) cs s.channel in
     record {
       answer = answered_by there (ask [] (bytes_at space from count) cs s.channel);
-      session = cond there (moved_to (from + count) s) s;
+      session = if there then moved_to (from + count) s else s;
       channels = cs;
     }
 
@@ -115,7 +108,7 @@ stored space from values s cs =
     let done = ask false (program_answered space from (length values)) cs s.channel in
     record {
       answer = answered_by done nothing;
-      session = cond done (moved_to (from + length values) s) s;
+      session = if done then moved_to (from + length values) s else s;
       channels = alter (written space from values) cs s.channel;
     }
 

@@ -1,5 +1,5 @@
 -- What comes of a command: an answer, and session and channels after. Assumes nothing.
-use Rattle.std.specs.Prelude.{ℕ, Bool, cond, List, [], ◌∷◌, ◌++◌, take, Ok, Err, codes, Result, ◌==◌}
+use Rattle.std.specs.Prelude.{ℕ, Bool, if◌then◌else◌, List, [], ◌∷◌, ◌++◌, Ok, Err, codes, Result, ◌==◌}
 use Rattle.bank.specs.Channels.{Channel}
 use Rattle.bank.specs.Modes.{mode_number}
 use Rattle.wire.specs.Frames.{param_count}
@@ -25,10 +25,10 @@ interface_version = 0x14 ∷ 0x01 ∷ []
 
 -- The name of an interface with so many channels.
 abbrev pub name_of : ℕ → List ℕ
-name_of count = cond (count == 1) (codes "BX4") (codes "mBX4")
+name_of count = if count == 1 then codes "BX4" else codes "mBX4"
 
 -- How many bytes a count byte asks for: 01 to FF count themselves, and 00 means 256, as in PARAM_LEN.
-unfoldable pub bytes_asked : ℕ → ℕ
+abbrev pub bytes_asked : ℕ → ℕ
 bytes_asked len = param_count len
 
 -- ---- outcomes
@@ -41,7 +41,7 @@ pub record Outcome : Type 0 where
 
 -- ACK 00 with a parameter where the bank answered, and otherwise 0F.
 abbrev pub answered_by : Bool → List ℕ → Result (List ℕ) Ack
-answered_by came param = cond came (Ok param) (Err ack.GeneralError)
+answered_by came param = if came then Ok param else Err ack.GeneralError
 
 -- A refusal alters nothing.
 abbrev pub refused : Ack → Session → List Channel → Outcome
@@ -55,21 +55,21 @@ pub record Check : Type 0 where
 -- The first check that does not hold refuses; where all hold, it is done.
 abbrev pub judged : List Check → Outcome → Session → List Channel → Outcome
 judged [] done s cs = done
-judged (check ∷ rest) done s cs = cond check.holds (judged rest done s cs) (refused check.otherwise s cs)
+judged (check ∷ rest) done s cs = if check.holds then judged rest done s cs else refused check.otherwise s cs
 
--- The parameter that stands for an answer. Bytes that were read stand at the front of a buffer.
-abbrev pub answer_bytes : Answer → List ℕ → List ℕ
-answer_bytes Done buffer = nothing
-answer_bytes ProtocolVersion buffer = protocol_version
-answer_bytes (InterfaceName count) buffer = name_of count
-answer_bytes InterfaceVersion buffer = interface_version
-answer_bytes (ChannelNumber i) buffer = i ∷ []
-answer_bytes (Page page) buffer = page ∷ []
-answer_bytes (InMode mode) buffer = mode_number mode ∷ []
-answer_bytes (Target identity mode) buffer = identity ++ mode_number mode ∷ []
-answer_bytes (Bytes len) buffer = take (bytes_asked len) buffer
+-- The parameter that stands for an answer.
+abbrev pub answer_bytes : Answer → List ℕ
+answer_bytes Done = nothing
+answer_bytes ProtocolVersion = protocol_version
+answer_bytes (InterfaceName count) = name_of count
+answer_bytes InterfaceVersion = interface_version
+answer_bytes (ChannelNumber i) = i ∷ []
+answer_bytes (Page page) = page ∷ []
+answer_bytes (InMode mode) = mode_number mode ∷ []
+answer_bytes (Target identity mode) = identity ++ mode_number mode ∷ []
+answer_bytes (Bytes bytes) = bytes.now
 
 -- The answer that the code's result stands for.
-abbrev pub told : Result Answer Ack → List ℕ → Result (List ℕ) Ack
-told (Ok answer) buffer = Ok (answer_bytes answer buffer)
-told (Err a) buffer = Err a
+abbrev pub told : Result Answer Ack → Result (List ℕ) Ack
+told (Ok answer) = Ok (answer_bytes answer)
+told (Err a) = Err a

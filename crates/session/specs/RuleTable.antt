@@ -2,10 +2,9 @@
 use Rattle.std.specs.Prelude.{ℕ, ◌*◌, Bool, true, false, List, [], ◌∷◌, length, is_some, Some, None, Ok, Err, Option, Result, nat_lt}
 use Rattle.std.specs.Option.{option_map}
 use Rattle.bank.specs.declared.space.Space.{Space}
-use Rattle.bank.specs.declared.space.Space.TheVariants.{Flash, Eeprom}
 use Rattle.bank.specs.Channels.{Channel}
 use Rattle.bank.specs.Effects.{inside}
-use Rattle.bank.specs.Facts.{TargetFacts, facts_of}
+use Rattle.bank.specs.Facts.{TargetFacts, facts_of, size_of}
 use Rattle.bank.specs.declared.facts.Facts.{Facts}
 use Rattle.commands.specs.Commands.{made_by, valid}
 use Rattle.commands.specs.declared.command.Command.{Command}
@@ -51,11 +50,6 @@ connection_there EraseAll s = s.connected
 connection_there (ErasePage page) s = s.connected
 connection_there (Read space len) s = s.connected
 connection_there (Write space) s = s.connected
-
--- How many bytes a memory of a target has.
-abbrev pub size_of : Space → TargetFacts → ℕ
-size_of Flash f = f.flash_size
-size_of Eeprom f = f.eeprom_size
 
 -- The target with these facts has the page.
 abbrev pub has_page : ℕ → Option TargetFacts → Bool

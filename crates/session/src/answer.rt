@@ -1,8 +1,8 @@
 use bank::Mode;
 
 // What is told of a command that was done: the parameter of its reply.
-#[derive(Clone, Copy)]
-pub enum Answer {
+#[derive(Clone, Copy, Debug, PartialEq, Eq)]
+pub enum Answer<'a> {
     // there is nothing to tell
     Done,
     ProtocolVersion,
@@ -14,6 +14,6 @@ pub enum Answer {
     InMode(Mode),
     // who a target is: its identity and its mode
     Target([u8; 3], Mode),
-    // so many bytes that were read, counted as PARAM_LEN counts, at the front of a buffer
-    Bytes(u8),
+    // the bytes that were read, 1 to 256 of them
+    Bytes(&'a [u8]),
 }

@@ -1,17 +1,18 @@
 -- Targets as channels. Assumes nothing.
-use Rattle.std.specs.Prelude.{ℕ, false, take}
+use Rattle.std.specs.Prelude.{ℕ, false}
 use Rattle.bank.specs.Channels.{Channel}
 use Rattle.bank.specs.Facts.{TargetFacts, facts_of}
 use Rattle.flash.specs.Blocks.{blank}
+use Rattle.targets.specs.Memories.{bytes_in}
 use Rattle.targets.specs.declared.target.Target.{Target}
 
--- The channel that a target is, with the rule that its type names. Of each array the front is in use, as much of it as the facts say.
+-- The channel that a target is, with the rule that its type names.
 abbrev pub channel : {L : Type 0} → (ℕ → ℕ → ℕ) → Target L → Channel
 channel rule t = record {
   facts = facts_of t.facts;
   rule = rule;
-  flash = take t.facts.flash_size t.flash;
-  eeprom = take t.facts.eeprom_size t.eeprom;
+  flash = bytes_in t.flash;
+  eeprom = bytes_in t.eeprom;
   supply = t.power.supply;
   awake = t.power.awake;
 }

@@ -1,26 +1,23 @@
-// A target is a bank of one channel.
-ghost use Rattle.std.specs.Prelude.{◌≡◌, ◌+◌, ◌≤◌, true, [], ◌∷◌, length, nat_le};
-ghost use Rattle.bank.specs.Effects.{memory, programmed, reached, spent};
-ghost use Rattle.bank.specs.declared.space.Space.TheVariants.{Eeprom, Flash};
-ghost use Rattle.flash.specs.Blocks.{blank};
-ghost use Rattle.flash.specs.Rules.{replacing};
+// A target is a bank of one channel. Enter and sleep, facts and alive differ in a word each, and a function for two would have longer clauses
+// than they have lines.
+ghost use Rattle.std.specs.Prelude.{◌≡◌, ◌+◌, ◌≤◌, true, [], ◌∷◌, length};
+ghost use Rattle.bank.specs.Effects.{memory, reached};
 ghost use Rattle.targets.specs.Targets.{channel};
-ghost use Rattle.std.proofs.Common.{rules, arith};
+ghost use Rattle.std.proofs.Common.{rules};
 
-use crate::memory::{copy_range, erase, is_inside, program};
 use crate::target::Target;
-use bank::{Bank, Facts, Space};
+use bank::{Bank, Facts, NoAnswer, Space, is_inside};
 use flash::{Landing, Replacing};
 use power::Power;
 
 impl<L: Landing> Target<L> {
-    // How many bytes a memory has.
-    fn size(&self, space: Space) -> usize
-        ensures { result ≡ length (memory space (channel L.Landing.rule self.now)) }
+    // The bytes of a memory.
+    fn bytes(&self, space: Space) -> &[u8]
+        ensures { result.now ≡ memory space (channel L.Landing.rule self.now) }
     {
         match space {
-            Space::Flash => self.facts.flash_size,
-            Space::Eeprom => self.facts.eeprom_size,
+            Space::Flash => self.flash.bytes(),
+            Space::Eeprom => self.eeprom.bytes(),
         }
     }
 
@@ -29,59 +26,14 @@ impl<L: Landing> Target<L> {
         ensures answer { result ≡ reached space start count (channel L.Landing.rule self.now) }
         ensures within { result ≡ true → start + count ≤ length (memory space (channel L.Landing.rule self.now)) }
     {
-        self.power.awake && is_inside(self.size(space), start, count)
-    }
-
-    // Lands in flash as many of the values as there are units, and tells whether that is all of them.
-    fn write_flash(&mut self, start: usize, values: &[u8]) -> bool
-        requires { start + length values.now ≤ self.old.facts.flash_size }
-        ensures answer { result ≡ nat_le (length values.now) self.old.power.supply }
-        ensures after { channel L.Landing.rule self.new ≡ spent (length values.now) (programmed L.Landing.rule Flash start values.now (channel L.Landing.rule self.old)) }
-    {
-        program::<L>(
-            &mut self.flash,
-            self.facts.flash_size,
-            &mut self.power,
-            start,
-            values,
-        )
-    }
-
-    // The same in EEPROM.
-    fn write_eeprom(&mut self, start: usize, values: &[u8]) -> bool
-        requires { start + length values.now ≤ self.old.facts.eeprom_size }
-        ensures answer { result ≡ nat_le (length values.now) self.old.power.supply }
-        ensures after { channel L.Landing.rule self.new ≡ spent (length values.now) (programmed replacing Eeprom start values.now (channel L.Landing.rule self.old)) }
-    {
-        program::<Replacing>(
-            &mut self.eeprom,
-            self.facts.eeprom_size,
-            &mut self.power,
-            start,
-            values,
-        )
-    }
-
-    // Blanks as many bytes of flash as there are units, and tells whether that is all of them.
-    fn erase_flash(&mut self, start: usize, count: usize) -> bool
-        requires { start + count ≤ self.old.facts.flash_size }
-        ensures answer { result ≡ nat_le count self.old.power.supply }
-        ensures after { channel L.Landing.rule self.new ≡ spent count (programmed replacing Flash start (blank count) (channel L.Landing.rule self.old)) }
-    {
-        erase(
-            &mut self.flash,
-            self.facts.flash_size,
-            &mut self.power,
-            start,
-            count,
-        )
+        self.power.awake && is_inside(self.bytes(space).len(), start, count)
     }
 }
 
 impl<L: Landing> Bank for Target<L> {
     ghost channels = { λ t. channel L.Landing.rule t ∷ [] };
 
-    ghost sound = { first_of (Prim.search rules, Prim.grind (arith, Self.row.coded.inj)) };
+    ghost sound = { Prim.search rules };
 
     fn count(&self) -> usize {
         1
@@ -101,47 +53,67 @@ impl<L: Landing> Bank for Target<L> {
         }
     }
 
-    fn enter(&mut self, channel: usize) -> bool {
-        channel == 0 && self.power.set_awake(true)
+    fn enter(&mut self, channel: usize) -> Result<(), NoAnswer> {
+        if channel != 0 || !self.power.set_awake(true) {
+            return Err(NoAnswer);
+        }
+        Ok(())
     }
 
-    fn sleep(&mut self, channel: usize) -> bool {
-        channel == 0 && self.power.set_awake(false)
+    fn sleep(&mut self, channel: usize) -> Result<(), NoAnswer> {
+        if channel != 0 || !self.power.set_awake(false) {
+            return Err(NoAnswer);
+        }
+        Ok(())
     }
 
-    fn read(&self, channel: usize, space: Space, start: usize, buffer: &mut [u8]) -> bool {
+    fn read(
+        &self,
+        channel: usize,
+        space: Space,
+        start: usize,
+        buffer: &mut [u8],
+    ) -> Result<(), NoAnswer> {
         if channel != 0 || !self.reaches(space, start, buffer.len()) {
-            return false;
+            return Err(NoAnswer);
         }
-        match space {
-            Space::Flash => copy_range(&self.flash, self.facts.flash_size, start, buffer),
-            Space::Eeprom => copy_range(&self.eeprom, self.facts.eeprom_size, start, buffer),
-        }
-        true
+        buffer.copy_from_slice(&self.bytes(space)[start..start + buffer.len()]);
+        Ok(())
     }
 
-    fn write(&mut self, channel: usize, space: Space, start: usize, values: &[u8]) -> bool {
+    fn write(
+        &mut self,
+        channel: usize,
+        space: Space,
+        start: usize,
+        values: &[u8],
+    ) -> Result<(), NoAnswer> {
         if channel != 0 || !self.reaches(space, start, values.len()) {
-            return false;
+            return Err(NoAnswer);
         }
+        let units = self.power.spend(values.len());
         match space {
-            Space::Flash => self.write_flash(start, values),
-            Space::Eeprom => self.write_eeprom(start, values),
+            Space::Flash => self.flash.land::<L>(start, &values[..units]),
+            Space::Eeprom => self.eeprom.land::<Replacing>(start, &values[..units]),
         }
+        (units == values.len()).then_some(()).ok_or(NoAnswer)
     }
 
-    fn erase(&mut self, channel: usize, start: usize, count: usize) -> bool {
+    #[tactic(auto, using(crate::proofs::Fronts::blank_units))]
+    fn erase(&mut self, channel: usize, start: usize, count: usize) -> Result<(), NoAnswer> {
         if channel != 0 || !self.reaches(Space::Flash, start, count) {
-            return false;
+            return Err(NoAnswer);
         }
-        self.erase_flash(start, count)
+        let units = self.power.spend(count);
+        self.flash.blank_out(start, units);
+        (units == count).then_some(()).ok_or(NoAnswer)
     }
 
-    fn supply(&mut self, channel: usize, units: u32) -> bool {
+    fn supply(&mut self, channel: usize, units: u32) -> Result<(), NoAnswer> {
         if channel != 0 {
-            return false;
+            return Err(NoAnswer);
         }
         self.power = Power::new(units);
-        true
+        Ok(())
     }
 }

@@ -2,7 +2,6 @@
 #![tactic(auto)]
 
 mod bank_of_one;
-mod building;
 mod memory;
 mod target;
 

@@ -1,20 +1,37 @@
-ghost use Rattle.std.specs.Prelude.{◌≡◌, length, take};
-ghost use Rattle.byte_rows.specs.Bytes.{Bytes};
+ghost use Rattle.std.specs.Prelude.{◌≡◌};
 
+use crate::memory::Memory;
 use bank::{Facts, MAX_EEPROM_SIZE, MAX_FLASH_SIZE};
+use flash::Landing;
 use power::Power;
 use std::marker::PhantomData;
 
-// One motor controller, whose flash lands by the rule `L`. Of each array the front is in use, as much of it as the facts say.
+// One motor controller, whose flash lands by the rule `L`. Nobody prints or compares 37 KB.
 #[derive(Drop)]
 pub struct Target<L> {
     pub(crate) facts: Facts,
-    pub(crate) flash: [u8; MAX_FLASH_SIZE],
-    pub(crate) eeprom: [u8; MAX_EEPROM_SIZE],
+    pub(crate) flash: Memory<MAX_FLASH_SIZE>,
+    pub(crate) eeprom: Memory<MAX_EEPROM_SIZE>,
     pub(crate) power: Power,
     pub(crate) landing: PhantomData<L>,
-    ghost flash_long: { length (take facts.flash_size flash) ≡ facts.flash_size },
-    ghost eeprom_long: { length (take facts.eeprom_size eeprom) ≡ facts.eeprom_size },
-    ghost flash_bytes: { Bytes (take facts.flash_size flash) },
-    ghost eeprom_bytes: { Bytes (take facts.eeprom_size eeprom) },
+    ghost flash_size: { flash.size ≡ facts.flash_size },
+    ghost eeprom_size: { eeprom.size ≡ facts.eeprom_size },
+}
+
+impl<L: Landing> Target<L> {
+    ghost use Rattle.bank.specs.Facts.{facts_of};
+    ghost use Rattle.targets.specs.Targets.{channel, new_channel};
+
+    // A new target with these facts: every byte FF, no supply, asleep.
+    pub fn new(facts: Facts) -> Target<L>
+        ensures { channel L.Landing.rule result ≡ new_channel (facts_of facts) L.Landing.rule }
+    {
+        Target {
+            facts,
+            flash: Memory::blank(facts.flash_size),
+            eeprom: Memory::blank(facts.eeprom_size),
+            power: Power::new(0),
+            landing: PhantomData,
+        }
+    }
 }

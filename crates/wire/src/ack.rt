@@ -14,7 +14,7 @@ pub enum Ack {
     GeneralError = 0x0F,
 }
 
-// The byte that stands for it in a reply.
+// The byte that stands for it in a reply: `as` tells an enum's own.
 impl From<Ack> for u8 {
     ghost from_gives = { λ ack code. code ≡ ack_code ack };
 
@@ -23,7 +23,8 @@ impl From<Ack> for u8 {
     }
 }
 
-// A reply's byte that stands for no acknowledgement. Not shown to anyone, so it has no text.
+// A reply's byte that stands for no acknowledgement. Not shown to anyone, so it has no text. Each crate has an error of
+// its own for the numbers that it reads.
 #[derive(Clone, Copy, Debug, PartialEq, Eq)]
 pub struct UnknownAck(pub u8);
 

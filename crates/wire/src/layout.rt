@@ -1,6 +1,9 @@
 ghost use Rattle.std.specs.Prelude.{◌≡◌, ◌≤◌};
 ghost use Rattle.wire.specs.Frames.{overhead_with, param_count, param_len, start_with};
 
+// The most parameter bytes of a frame.
+pub const MAX_PARAM: usize = 256;
+
 // How many bytes stand before the parameter: START, COMMAND, ADDRESS high and low, PARAM_LEN.
 pub(crate) const HEADER: usize = 5;
 
@@ -42,7 +45,7 @@ pub fn count_of(len: u8) -> usize
     ensures { result ≡ param_count len }
 {
     match len {
-        0 => 256,
+        0 => MAX_PARAM,
         n => usize::from(n),
     }
 }
@@ -53,7 +56,7 @@ pub(crate) fn len_of(count: usize) -> u8
     ensures { result ≡ param_len count }
 {
     match count {
-        256 => 0,
+        MAX_PARAM => 0,
         n => n as u8,
     }
 }

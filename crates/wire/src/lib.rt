@@ -10,7 +10,7 @@ mod unread;
 mod write;
 
 pub use ack::{Ack, UnknownAck};
-pub use layout::count_of;
+pub use layout::{MAX_PARAM, count_of};
 pub use message::{Message, Reply};
 pub use read::{read_command, unpack};
 pub use refusal::Refusal;

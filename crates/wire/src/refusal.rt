@@ -23,7 +23,7 @@ pub enum Refusal {
     WrongCrc = 27,
 }
 
-// Its number.
+// Its number: `as` tells an enum's own.
 impl From<Refusal> for u8 {
     ghost from_gives = { λ refusal number. number ≡ refusal_number refusal };
 

@@ -7,7 +7,7 @@ ghost use Rattle.wire.specs.Packing.{buffer_after, write_result, written_at};
 ghost use Rattle.wire.specs.Reading.{command_in, intact, unpacked};
 
 use crate::ack::Ack;
-use crate::layout::{Form, HEADER, len_of};
+use crate::layout::{Form, HEADER, MAX_PARAM, len_of};
 use crate::message::Message;
 use crate::refusal::Refusal;
 use crc16::checksum;
@@ -24,7 +24,7 @@ fn put(out: &mut [u8], at: usize, part: &[u8])
 fn frame_len(count: usize, form: Form, space: usize) -> Result<usize, Refusal>
     ensures { result ≡ write_result count form.overhead space }
 {
-    if count == 0 || count > 256 {
+    if count == 0 || count > MAX_PARAM {
         return Err(Refusal::ParamCount);
     }
     if space < count + form.overhead {
@@ -33,7 +33,7 @@ fn frame_len(count: usize, form: Form, space: usize) -> Result<usize, Refusal>
     Ok(count + form.overhead)
 }
 
-// What stands before the parameter.
+// What stands before the parameter. Of a form it only needs START.
 fn header_of(start: u8, message: Message<'_>) -> [u8; HEADER]
     requires { length message.param.now ≤ 256 }
     ensures { result ≡ header start (fields_of message.entry) }
@@ -57,7 +57,8 @@ fn append_crc(out: &mut [u8], end: usize)
     put(out, end, &crc.to_be_bytes());
 }
 
-// Writes the frame of a reply with the given ACK, or of a command where there is none, to the front of `out`.
+// Writes the frame of a reply with the given ACK, or of a command where there is none, to the front of `out`. The ACK is the byte that it is
+// in a frame.
 fn put_frame(message: Message<'_>, ack: Option<u8>, out: &mut [u8]) -> Result<usize, Refusal>
     ensures result { result ≡ write_result (length message.entry.param.now) (overhead_with ack) (length out.old) }
     ensures buffer { out.new ≡ buffer_after result (frame (start_with ack) (fields_of message.entry) (option_to_list ack)) out.old }
@@ -73,8 +74,8 @@ fn put_frame(message: Message<'_>, ack: Option<u8>, out: &mut [u8]) -> Result<us
     Ok(len)
 }
 
-// The PC's end: writes the frame of a command to the front of `out`, keeps the rest, and tells the frame's length, which outlives the borrow
-// that a part of `out` would be.
+// The PC's end: writes the frame of a command to the front of `out`, keeps the rest, and tells the frame's length, as a
+// writer's `write` does.
 pub fn pack(message: Message<'_>, out: &mut [u8]) -> Result<usize, Refusal>
     ensures result { result ≡ write_result (length message.entry.param.now) 7 (length out.old) }
     ensures buffer { out.new ≡ buffer_after result (command_frame (fields_of message.entry)) out.old }
