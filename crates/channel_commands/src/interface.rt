@@ -1,5 +1,5 @@
 // Commands about the interface itself.
-ghost use Rattle.std.specs.Prelude.{◌≡◌, [], ◌∷◌, map, Ok};
+ghost use Rattle.std.specs.Prelude.{◌≡◌, ℕ, List, [], ◌∷◌, map, Ok};
 ghost use Rattle.bank.specs.Effects.{put_to_sleep};
 ghost use Rattle.session.specs.Doing.{alive_tested, exited};
 ghost use Rattle.session.specs.Outcomes.{told};
@@ -22,8 +22,8 @@ fn sleep_all<B: Bank>(bank: &mut B)
 }
 
 // Test alive: fails only when connected to a target that is asleep.
-pub fn test_alive<B: Bank>(session: &Session, bank: &B) -> Result<Answer<'static>, Ack>
-    ensures { told result ≡ (alive_tested session.now (B.Bank.channels bank.now)).answer }
+pub fn test_alive<B: Bank>(session: &Session, bank: &B) -> Result<Answer, Ack>
+    ensures { (buffer : List ℕ) → told result buffer ≡ (alive_tested session.now (B.Bank.channels bank.now)).answer }
 {
     if session.connected && bank.alive(session.channel) != Some(true) {
         return Err(Ack::GeneralError);
@@ -32,8 +32,8 @@ pub fn test_alive<B: Bank>(session: &Session, bank: &B) -> Result<Answer<'static
 }
 
 // Exit: restarts the session. In mode 0 it first puts every target that has supply to sleep.
-pub fn exit<B: Bank>(session: &mut Session, bank: &mut B) -> Result<Answer<'static>, Ack>
-    ensures answer { told result ≡ (exited session.old (B.Bank.channels bank.old)).answer }
+pub fn exit<B: Bank>(session: &mut Session, bank: &mut B) -> Result<Answer, Ack>
+    ensures answer { (buffer : List ℕ) → told result buffer ≡ (exited session.old (B.Bank.channels bank.old)).answer }
     ensures session { session.new ≡ (exited session.old (B.Bank.channels bank.old)).session }
     ensures channels { B.Bank.channels bank.new ≡ (exited session.old (B.Bank.channels bank.old)).channels }
 {
@@ -45,8 +45,8 @@ pub fn exit<B: Bank>(session: &mut Session, bank: &mut B) -> Result<Answer<'stat
 }
 
 // Set mode: sets it, and ends the connection.
-pub fn set_mode(session: &mut Session, mode: Mode) -> Result<Answer<'static>, Ack>
-    ensures answer { told result ≡ Ok (mode_number mode ∷ []) }
+pub fn set_mode(session: &mut Session, mode: Mode) -> Result<Answer, Ack>
+    ensures answer { (buffer : List ℕ) → told result buffer ≡ Ok (mode_number mode ∷ []) }
     ensures session { session.new ≡ in_mode mode session.old }
 {
     session.mode = mode;

@@ -1,5 +1,5 @@
 // Commands that select a channel.
-ghost use Rattle.std.specs.Prelude.{◌≡◌, [], length, if◌then◌else◌, is_ok, nat_lt, Ok, Err};
+ghost use Rattle.std.specs.Prelude.{◌≡◌, ℕ, List, [], length, if◌then◌else◌, is_ok, nat_lt, Ok, Err};
 ghost use Rattle.commands.specs.declared.command.Command.TheVariants.{InitFlash, Reset};
 ghost use Rattle.session.specs.Outcomes.{told};
 ghost use Rattle.session.specs.RuleTable.{performed};
@@ -25,12 +25,8 @@ fn select<B: Bank>(session: &mut Session, bank: &B, channel: u8) -> Result<(), A
 }
 
 // Device reset, and C2 clock line low: selects a channel that the bank has, and puts its target to sleep.
-pub fn reset<B: Bank>(
-    session: &mut Session,
-    bank: &mut B,
-    channel: u8,
-) -> Result<Answer<'static>, Ack>
-    ensures answer { told result ≡ (performed (Reset channel) 0 [] session.old (B.Bank.channels bank.old)).answer }
+pub fn reset<B: Bank>(session: &mut Session, bank: &mut B, channel: u8) -> Result<Answer, Ack>
+    ensures answer { (buffer : List ℕ) → told result buffer ≡ (performed (Reset channel) 0 [] session.old (B.Bank.channels bank.old)).answer }
     ensures session { session.new ≡ (performed (Reset channel) 0 [] session.old (B.Bank.channels bank.old)).session }
     ensures channels { B.Bank.channels bank.new ≡ (performed (Reset channel) 0 [] session.old (B.Bank.channels bank.old)).channels }
 {
@@ -40,12 +36,8 @@ pub fn reset<B: Bank>(
 }
 
 // Init flash: selects a channel that the bank has, and connects to its target, which has to be of the session's mode, and then to answer.
-pub fn init_flash<B: Bank>(
-    session: &mut Session,
-    bank: &mut B,
-    channel: u8,
-) -> Result<Answer<'static>, Ack>
-    ensures answer { told result ≡ (performed (InitFlash channel) 0 [] session.old (B.Bank.channels bank.old)).answer }
+pub fn init_flash<B: Bank>(session: &mut Session, bank: &mut B, channel: u8) -> Result<Answer, Ack>
+    ensures answer { (buffer : List ℕ) → told result buffer ≡ (performed (InitFlash channel) 0 [] session.old (B.Bank.channels bank.old)).answer }
     ensures session { session.new ≡ (performed (InitFlash channel) 0 [] session.old (B.Bank.channels bank.old)).session }
     ensures channels { B.Bank.channels bank.new ≡ (performed (InitFlash channel) 0 [] session.old (B.Bank.channels bank.old)).channels }
 {

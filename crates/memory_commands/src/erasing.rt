@@ -1,4 +1,4 @@
-ghost use Rattle.std.specs.Prelude.{◌≡◌, []};
+ghost use Rattle.std.specs.Prelude.{◌≡◌, ℕ, List, []};
 ghost use Rattle.commands.specs.declared.command.Command.TheVariants.{EraseAll, ErasePage};
 ghost use Rattle.session.specs.Outcomes.{told};
 ghost use Rattle.session.specs.RuleTable.{performed};
@@ -9,8 +9,8 @@ use session::{Answer, Session};
 use wire::Ack;
 
 // Erases all flash.
-pub fn erase_all<B: Bank>(session: &Session, bank: &mut B) -> Result<Answer<'static>, Ack>
-    ensures answer { told result ≡ (performed EraseAll 0 [] session.now (B.Bank.channels bank.old)).answer }
+pub fn erase_all<B: Bank>(session: &Session, bank: &mut B) -> Result<Answer, Ack>
+    ensures answer { (buffer : List ℕ) → told result buffer ≡ (performed EraseAll 0 [] session.now (B.Bank.channels bank.old)).answer }
     ensures channels { B.Bank.channels bank.new ≡ (performed EraseAll 0 [] session.now (B.Bank.channels bank.old)).channels }
 {
     let facts = target(session, bank)?;
@@ -21,12 +21,8 @@ pub fn erase_all<B: Bank>(session: &Session, bank: &mut B) -> Result<Answer<'sta
 
 // Erases a page of flash.
 #[tactic(auto, using(crate::proofs::Pages::start_few))]
-pub fn erase_page<B: Bank>(
-    session: &Session,
-    bank: &mut B,
-    page: u8,
-) -> Result<Answer<'static>, Ack>
-    ensures answer { told result ≡ (performed (ErasePage page) 0 [] session.now (B.Bank.channels bank.old)).answer }
+pub fn erase_page<B: Bank>(session: &Session, bank: &mut B, page: u8) -> Result<Answer, Ack>
+    ensures answer { (buffer : List ℕ) → told result buffer ≡ (performed (ErasePage page) 0 [] session.now (B.Bank.channels bank.old)).answer }
     ensures channels { B.Bank.channels bank.new ≡ (performed (ErasePage page) 0 [] session.now (B.Bank.channels bank.old)).channels }
 {
     let facts = target(session, bank)?;

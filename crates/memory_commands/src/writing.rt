@@ -1,4 +1,4 @@
-ghost use Rattle.std.specs.Prelude.{◌≡◌};
+ghost use Rattle.std.specs.Prelude.{◌≡◌, ℕ, List};
 ghost use Rattle.commands.specs.declared.command.Command.TheVariants.{Write};
 ghost use Rattle.session.specs.Outcomes.{told};
 ghost use Rattle.session.specs.RuleTable.{performed};
@@ -15,8 +15,8 @@ pub fn write<B: Bank>(
     space: Space,
     address: u16,
     values: &[u8],
-) -> Result<Answer<'static>, Ack>
-    ensures answer { told result ≡ (performed (Write space) address values.now session.old (B.Bank.channels bank.old)).answer }
+) -> Result<Answer, Ack>
+    ensures answer { (buffer : List ℕ) → told result buffer ≡ (performed (Write space) address values.now session.old (B.Bank.channels bank.old)).answer }
     ensures session { session.new ≡ (performed (Write space) address values.now session.old (B.Bank.channels bank.old)).session }
     ensures channels { B.Bank.channels bank.new ≡ (performed (Write space) address values.now session.old (B.Bank.channels bank.old)).channels }
 {

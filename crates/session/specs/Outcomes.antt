@@ -1,5 +1,5 @@
 -- What comes of a command: an answer, and session and channels after. Assumes nothing.
-use Rattle.std.specs.Prelude.{ℕ, Bool, if◌then◌else◌, List, [], ◌∷◌, ◌++◌, Ok, Err, codes, Result, ◌==◌}
+use Rattle.std.specs.Prelude.{ℕ, Bool, if◌then◌else◌, List, [], ◌∷◌, ◌++◌, take, Ok, Err, codes, Result, ◌==◌}
 use Rattle.bank.specs.Channels.{Channel}
 use Rattle.bank.specs.Modes.{mode_number}
 use Rattle.wire.specs.Frames.{param_count}
@@ -57,19 +57,19 @@ abbrev pub judged : List Check → Outcome → Session → List Channel → Outc
 judged [] done s cs = done
 judged (check ∷ rest) done s cs = if check.holds then judged rest done s cs else refused check.otherwise s cs
 
--- The parameter that stands for an answer.
-abbrev pub answer_bytes : Answer → List ℕ
-answer_bytes Done = nothing
-answer_bytes ProtocolVersion = protocol_version
-answer_bytes (InterfaceName count) = name_of count
-answer_bytes InterfaceVersion = interface_version
-answer_bytes (ChannelNumber i) = i ∷ []
-answer_bytes (Page page) = page ∷ []
-answer_bytes (InMode mode) = mode_number mode ∷ []
-answer_bytes (Target identity mode) = identity ++ mode_number mode ∷ []
-answer_bytes (Bytes bytes) = bytes.now
+-- The parameter that stands for an answer. Bytes that were read stand at the front of a buffer.
+abbrev pub answer_bytes : Answer → List ℕ → List ℕ
+answer_bytes Done buffer = nothing
+answer_bytes ProtocolVersion buffer = protocol_version
+answer_bytes (InterfaceName count) buffer = name_of count
+answer_bytes InterfaceVersion buffer = interface_version
+answer_bytes (ChannelNumber i) buffer = i ∷ []
+answer_bytes (Page page) buffer = page ∷ []
+answer_bytes (InMode mode) buffer = mode_number mode ∷ []
+answer_bytes (Target identity mode) buffer = identity ++ mode_number mode ∷ []
+answer_bytes (Bytes len) buffer = take (bytes_asked len) buffer
 
 -- The answer that the code's result stands for.
-abbrev pub told : Result Answer Ack → Result (List ℕ) Ack
-told (Ok answer) = Ok (answer_bytes answer)
-told (Err a) = Err a
+abbrev pub told : Result Answer Ack → List ℕ → Result (List ℕ) Ack
+told (Ok answer) buffer = Ok (answer_bytes answer buffer)
+told (Err a) buffer = Err a

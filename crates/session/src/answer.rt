@@ -2,7 +2,7 @@ use bank::Mode;
 
 // What is told of a command that was done: the parameter of its reply.
 #[derive(Clone, Copy, Debug, PartialEq, Eq)]
-pub enum Answer<'a> {
+pub enum Answer {
     // there is nothing to tell
     Done,
     ProtocolVersion,
@@ -14,6 +14,6 @@ pub enum Answer<'a> {
     InMode(Mode),
     // who a target is: its identity and its mode
     Target([u8; 3], Mode),
-    // the bytes that were read, 1 to 256 of them
-    Bytes(&'a [u8]),
+    // so many bytes that were read, counted as PARAM_LEN counts, at the front of a buffer
+    Bytes(u8),
 }
