@@ -1,11 +1,26 @@
 -- Landing a block step by step, whole, torn and tried again. Assumes nothing but the laws of the rule.
-use Rattle.std.proofs.Common.{◌≡◌, ℕ, zero, suc, ◌+◌, ◌<◌, ◌≤◌, List, [], ◌∷◌, ◌++◌, length, get_or, take, drop, set, replicate, refl, ap, ◌∙◌, ap₂, arith}
+use Rattle.std.proofs.Common.{◌≡◌, ℕ, zero, suc, ◌+◌, ◌-◌, ◌<◌, ◌≤◌, min, List, [], ◌∷◌, ◌++◌, length, get_or, take, drop, set, replicate, sym, refl, ap, ◌∙◌, ap₂, arith}
+use native.Mathlib.Nat.{min-le_left}
 use Rattle.std.proofs.lemmas.Grind.{common_steps}
+use Rattle.std.proofs.lemmas.List.{length-drop, length-replicate, take-replicate}
 use Rattle.byte_rows.specs.Bytes.{Bytes}
 use Rattle.byte_rows.proofs.Bytes.{bytes_none, bytes_cons, bytes_append, bytes_take, bytes_drop}
 use Rattle.flash.specs.Rules.{replacing, OnBytes, OnBlank, Idempotent}
 use Rattle.flash.proofs.Rules.{replacing_idempotent, replacing_on_bytes}
 use Rattle.flash.specs.Blocks.{blank, blanked, land_all, landed, torn_tries}
+
+-- ---- one byte more
+
+land_none : (f : ℕ → ℕ → ℕ) (os : List ℕ) → land_all f os [] ≡ os
+land_none f [] = refl
+land_none f (o ∷ os) = refl
+
+land_more : (f : ℕ → ℕ → ℕ) (os vs : List ℕ) (i : ℕ) → i < length os → i < length vs →
+    set (land_all f os (take i vs)) i (f (get_or os i 0) (get_or vs i 0)) ≡ land_all f os (take (suc i) vs)
+land_more f [] vs i h k = absurd (omega arith)
+land_more f (o ∷ os) [] i h k = absurd (omega arith)
+land_more f (o ∷ os) (v ∷ vs) zero h k = ap (λ xs. f o v ∷ xs) (sym (land_none f os))
+land_more f (o ∷ os) (v ∷ vs) (suc i) h k = ap (λ xs. f o v ∷ xs) (land_more f os vs i (omega arith) (omega arith))
 
 -- a value landed in the first cell, and then the others from the next cell upward
 pub landed_more : (f : ℕ → ℕ → ℕ) (start v : ℕ) (vs os : List ℕ) → start < length os →
@@ -19,6 +34,21 @@ landed_end f zero [] (o ∷ os) h = refl
 landed_end f zero (v ∷ vs) (o ∷ os) h = absurd (omega (arith, h (omega arith)))
 landed_end f (suc start) vs [] h = refl
 landed_end f (suc start) vs (o ∷ os) h = ap (λ xs. o ∷ xs) (landed_end f start vs os (λ k. omega (arith, h k)))
+
+-- ---- past the last cell
+
+land_enough : (f : ℕ → ℕ → ℕ) (os vs : List ℕ) (n : ℕ) → (n < length vs → length os ≤ n) → land_all f os (take n vs) ≡ land_all f os vs
+land_enough f [] vs n h = refl
+land_enough f (o ∷ os) [] zero h = refl
+land_enough f (o ∷ os) [] (suc n) h = refl
+land_enough f (o ∷ os) (v ∷ vs) zero h = absurd (omega (arith, h (omega arith)))
+land_enough f (o ∷ os) (v ∷ vs) (suc n) h = ap (λ xs. f o v ∷ xs) (land_enough f os vs n (λ k. omega (arith, h (omega arith))))
+
+-- values past the last cell land nowhere
+pub landed_enough : (f : ℕ → ℕ → ℕ) (start : ℕ) (vs os : List ℕ) (n : ℕ) → (n < length vs → length os ≤ start + n) →
+    landed f start (take n vs) os ≡ landed f start vs os
+landed_enough f start vs os n h =
+    ap (λ xs. take start os ++ xs) (land_enough f (drop start os) vs n (λ k. omega (arith, h k, length-drop start os)))
 
 -- ---- over what was landed before
 
@@ -82,6 +112,13 @@ exact f fresh start vs os c =
 pub blank_bytes : (n : ℕ) → Bytes (blank n)
 blank_bytes zero = bytes_none
 blank_bytes (suc n) = bytes_cons 255 (blank n) (omega arith) (blank_bytes n)
+
+-- as many bytes blanked as there are is all blanked that were asked for
+pub blanked_enough : (start n m : ℕ) (os : List ℕ) → m ≡ min n (length os - start) → landed replacing start (take m (blank m)) os ≡ blanked start n os
+blanked_enough start n m os e =
+    let least : m ≤ n = omega (arith, e, min-le_left n (length os - start)) in
+    ap (λ vs. landed replacing start vs os) (take-replicate {X = ℕ} m m 255 (omega arith) ∙ sym (take-replicate {X = ℕ} m n 255 least))
+    ∙ landed_enough replacing start (blank n) os m (λ k. omega (arith, e, k, length-replicate {A = ℕ} n 255))
 
 pub blanked_again : (start n : ℕ) (ks os : List ℕ) → Bytes os →
     blanked start n (torn_tries replacing start (blank n) ks os) ≡ blanked start n os

@@ -1,7 +1,7 @@
 // Flash memory: landing rules, landing a block, blanking a block.
 #![tactic(auto)]
 
-ghost use Rattle.std.specs.Prelude.{◌≡◌};
+ghost use Rattle.std.specs.Prelude.{◌≡◌, take};
 ghost use Rattle.flash.specs.Blocks.{Exact, Retried, blank, blanked, landed};
 ghost use Rattle.flash.specs.Rules.{replacing};
 
@@ -9,16 +9,25 @@ mod landing;
 
 pub use landing::{Clearing, Landing, Replacing};
 
+// The front of the values, as many as there is room for.
+fn with_room(values: &[u8], room: usize) -> &[u8]
+    ensures { result.now ≡ take room values.now }
+{
+    &values[..values.len().min(room)]
+}
+
 // Lands a block in a memory by the rule `L`, from the address `start` upward. Values past the end of the memory land nowhere.
 // Landed after tries of the same block that were torn, it leaves what it would have left at once. By index, since after an adapter of
-// `iter_mut` nothing is known of what it lent.
+// `iter_mut` nothing is known of what it lent; over the values that have room, since a zip of places and values can end at either, and the
+// compiler then makes no copy of it.
 pub fn land_block<L: Landing>(memory: &mut [u8], start: usize, values: &[u8])
     ensures lands { memory.new ≡ landed L.Landing.rule start values.now memory.old }
     ensures retry { Retried L.Landing.rule start values.now memory.old memory.new }
     ensures exact { Exact start values.now memory.old memory.new }
 {
-    for (i, value) in (start..memory.len()).zip(values) {
-        memory[i] = L::land(memory[i], *value);
+    let landing = with_room(values, memory.len().saturating_sub(start));
+    for (i, value) in landing.iter().enumerate() {
+        memory[start + i] = L::land(memory[start + i], *value);
     }
 }
 

@@ -1,7 +1,8 @@
-use Rattle.std.proofs.Common.{◌≡◌, inl, inr, ap, ◌∙◌, arith}
+use Rattle.std.proofs.Common.{◌≡◌, ◌+◌, ap, ◌∙◌, take, drop, arith}
+use Rattle.std.proofs.lemmas.List.{length-drop}
 use Rattle.byte_rows.specs.Bytes.{Bytes}
 use Rattle.flash.specs.Blocks.{landed}
-use Rattle.flash.proofs.Blocks.{exact, landed_end, retried}
+use Rattle.flash.proofs.Blocks.{exact, landed_end, landed_enough, retried}
 use Rattle.flash.proofs.land_block.Goals as goal
 
 pub returns : goal.returns
@@ -10,12 +11,15 @@ returns g c =
     let laws = g.met.L.Landing in
     let start = c.args.start in
     let vs = c.args.values.now in
-    let left = c.loop-i.i-iterator in
+    let os = c.args.memory.now in
+    let room = c.saturating_sub.result in
+    let landing = c.with_room-landing.result.now in
     let bytes : Bytes vs = λ k. (c.type_inv.values k).fits in
     let end =
-    landed_end f left.a.start left.b.rest.now c.loop-i.memory
-    (λ h. elim c.in-None.ensures.steps [ inl e ↦ omega arith | inr e ↦ omega arith ]) in
-    let whole : c.loop-i.memory ≡ landed f start vs c.args.memory.now = cc in
+    landed_end f (start + c.loop-i.i) (drop c.loop-i.i landing) c.loop-i.memory (λ h. omega (arith, h, length-drop c.loop-i.i landing, c.loop-i-test.false)) in
+    let enough = landed_enough f start vs os room (λ h. omega (arith, h, c.saturating_sub.ensures)) in
+    let front = ap (λ ws. landed f start ws os) c.with_room-landing.ensures in
+    let whole : c.loop-i.memory ≡ landed f start vs os = cc in
     record {
       lands = whole;
       retry = λ ks os b e. whole ∙ ap (landed f start vs) e ∙ retried f laws.onbytes laws.idempotent start vs ks os bytes b;
