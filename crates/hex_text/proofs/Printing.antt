@@ -34,7 +34,7 @@ address_text n small = rw (by_sixteens n small) (⊎_elim
 
 -- ---- bytes, one more
 
-hex_append : (xs ys : List ℕ) → hex_bytes (xs ++ ys) ≡ hex_bytes xs ++ hex_bytes ys
+pub hex_append : (xs ys : List ℕ) → hex_bytes (xs ++ ys) ≡ hex_bytes xs ++ hex_bytes ys
 hex_append [] ys = refl
 hex_append (x ∷ xs) ys = ap (λ l. 32 ∷ (hex_byte x ++ l)) (hex_append xs ys)
 

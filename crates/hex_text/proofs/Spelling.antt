@@ -4,7 +4,7 @@ use Rattle.std.proofs.lemmas.Bool.Decides.{nat_tests}
 use Rattle.std.specs.List.{AllByRecursion}
 use Rattle.hex_text.specs.Hex.{byte_before, byte_value, bytes_spelled, digit_value, hex_bytes, hex_digit, two_digits}
 
-digit_back : (n : ℕ) → n < 16 → digit_value (hex_digit n) ≡ Some n
+pub digit_back : (n : ℕ) → n < 16 → digit_value (hex_digit n) ≡ Some n
 digit_back n h = grind (arith, nat_tests)
 
 pub byte_back : (b : ℕ) → b < 256 → byte_value (hex_digit (b / 16)) (hex_digit (b % 16)) ≡ Some b

@@ -1,19 +1,17 @@
-ghost use Rattle.std.specs.Prelude.{Some};
-ghost use Rattle.hex_text.specs.Hex.{hex_address, hex_byte, hex_bytes};
+ghost use Rattle.std.specs.Prelude.{◌≡◌, ◌<◌, Some};
+ghost use Rattle.hex_text.specs.Hex.{hex_address, hex_byte, hex_bytes, hex_digit};
 
 use std::fmt;
 
-// A byte, shown as two digits.
+// A byte, shown as two digits. As two characters, since `{:02X}` works out a width and a radix anew for every byte.
 #[derive(Clone, Copy, Debug, PartialEq, Eq)]
 pub struct Hex(pub u8);
 
 impl fmt::Display for Hex {
     ghost output = { λ h. Some (hex_byte h.0) };
 
-    #[tactic(auto, using(std::proofs::lemmas::Fmt::hex_byte))]
     fn fmt<W: fmt::Write>(&self, f: &mut fmt::Formatter<W>) -> fmt::Result {
-        let byte = self.0;
-        write!(f, "{byte:02X}")
+        write!(f, "{}{}", digit(self.0 / 16), digit(self.0 % 16))
     }
 }
 
@@ -44,4 +42,14 @@ impl fmt::Display for HexBytes<'_> {
         }
         Ok(())
     }
+}
+
+// The digit of a number below 16, a capital letter from ten on.
+fn digit(n: u8) -> char
+    requires { n < 16 }
+    ensures { result ≡ hex_digit n }
+{
+    char::from_digit(u32::from(n), 16)
+        .unwrap_or('0')
+        .to_ascii_uppercase()
 }
