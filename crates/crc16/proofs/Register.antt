@@ -105,10 +105,17 @@ halves h l hh hl =
 
 -- ---- the table
 
+-- f at each number from n on, for k numbers
+abbrev pub tabulated : (ℕ → ℕ) → ℕ → ℕ → List ℕ
+tabulated f k n = map f (range_with_len n k)
+
+get_or-tabulated : (f : ℕ → ℕ) (k n i : ℕ) → i < k → get_or (tabulated f k n) i 0 ≡ f (n + i)
+get_or-tabulated f k n i h = get_or-map-range_with_len f n k i (n + i) 0 h refl
+
 -- the whole table, computed bit by bit: the entry i is what the upper half i comes to
 abbrev pub bitwise_table : List ℕ
 unfolding shift shifts
-bitwise_table = map (λ i. shifts 8 (i * 256)) (range_with_len 0 256)
+bitwise_table = tabulated (λ i. shifts 8 (i * 256)) 256 0
 
 -- eight bits on by the table
 pub table_shifts : (r high : ℕ) → r < 2 ^ 16 → high ≡ r / 256 → bit_xor (get_or bitwise_table high 0) (r * 256 % 2 ^ 16) ≡ shifts 8 r
@@ -117,7 +124,7 @@ table_shifts r high h e =
     let hh : high < 256 = omega arith in
     let hl : r % 256 < 256 = omega arith in
     let up : r * 256 % 2 ^ 16 ≡ r % 256 * 256 = omega arith in
-    ap₂ bit_xor (get_or-map-range_with_len (λ i. shifts 8 (i * 256)) 0 256 high high 0 hh (zero-add high)) up
+    ap₂ bit_xor (get_or-tabulated (λ i. shifts 8 (i * 256)) 256 0 high hh ∙ ap (λ i. shifts 8 (i * 256)) (zero-add high)) up
     ∙ sym (halves high (r % 256) hh hl) ∙ ap (shifts 8) (ap (λ i. i * 256 + r % 256) e ∙ div-add-mod' r 256)
 
 -- ---- eight shifts lose nothing

@@ -9,12 +9,15 @@ use Rattle.wire.specs.Fields.{Fields}
 use Rattle.pcframe_requests.specs.Laws.{RequestLaws, bytes_line, command_line}
 use Rattle.pcframe_requests.specs.Requests.{asked, asked_by, head_spelled, packing, packing_of, trimmed, unpacking, unpacking_of}
 
-untrimmed : (line : List ℕ) → Printable line → trimmed line ≡ line
-untrimmed [] none = refl
-untrimmed (c ∷ text) none =
+untrimmed : (line : List ℕ) → get_or line (length line - 1) 0 ≢ 13 → trimmed line ≡ line
+untrimmed line last = rw (ne_eqb _ 13 last)
+
+-- nothing that is shown ends in a carriage return
+shown_last : (line : List ℕ) → Printable line → get_or line (length line - 1) 0 ≢ 13
+shown_last [] shown = omega arith
+shown_last (c ∷ text) shown =
     let end = length (c ∷ text) - 1 in
-    let last : get_or (c ∷ text) end 0 ≢ 13 = omega (arith, All-from_recursion (λ x. 31 < x) (c ∷ text) none end 0 (omega arith)) in
-    rw (ne_eqb _ 13 last)
+    omega (arith, All-from_recursion (λ x. 31 < x) (c ∷ text) shown end 0 (omega arith))
 
 -- the text behind the p
 abbrev behind : Fields → List ℕ
@@ -30,12 +33,13 @@ command_asked : (f : Fields) → f.command < 256 → f.address < 65536 → Bytes
 command_asked f c a bytes =
     let d = digit_printable in
     let shown : Printable (command_line f) = (omega arith, (omega arith, (d _, (d _, (omega arith, (d _, (d _, (d _, (d _, bytes_printable f.param))))))))) in
-    ap asked_by (untrimmed (command_line f) shown)
+    ap asked_by (untrimmed (command_line f) (shown_last (command_line f) shown))
     ∙ ap₂ packing_of (head_back f c a) (bytes_back f.param bytes)
 
 bytes_asked : (bs : List ℕ) → Bytes bs → asked (bytes_line bs) ≡ unpacking bs
 bytes_asked bs bytes =
-    ap asked_by (untrimmed (bytes_line bs) (omega arith, bytes_printable bs)) ∙ ap unpacking_of (bytes_back bs bytes)
+    let shown : Printable (bytes_line bs) = (omega arith, bytes_printable bs) in
+    ap asked_by (untrimmed (bytes_line bs) (shown_last (bytes_line bs) shown)) ∙ ap unpacking_of (bytes_back bs bytes)
 
 pub request_laws : (line : List ℕ) → RequestLaws line
 request_laws line = record {
