@@ -22,6 +22,13 @@ land_more f (o ∷ os) [] i h k = absurd (omega arith)
 land_more f (o ∷ os) (v ∷ vs) zero h k = ap (λ xs. f o v ∷ xs) (sym (land_none f os))
 land_more f (o ∷ os) (v ∷ vs) (suc i) h k = ap (λ xs. f o v ∷ xs) (land_more f os vs i (omega arith) (omega arith))
 
+land_keeps : (f : ℕ → ℕ → ℕ) (os vs : List ℕ) (i : ℕ) → get_or (land_all f os (take i vs)) i 0 ≡ get_or os i 0
+land_keeps f [] vs i = refl
+land_keeps f (o ∷ os) [] zero = refl
+land_keeps f (o ∷ os) [] (suc i) = refl
+land_keeps f (o ∷ os) (v ∷ vs) zero = refl
+land_keeps f (o ∷ os) (v ∷ vs) (suc i) = land_keeps f os vs i
+
 -- a value landed in the first cell, and then the others from the next cell upward
 pub landed_more : (f : ℕ → ℕ → ℕ) (start v : ℕ) (vs os : List ℕ) → start < length os →
     landed f (start + 1) vs (set os start (f (get_or os start 0) v)) ≡ landed f start (v ∷ vs) os
@@ -34,6 +41,10 @@ landed_end f zero [] (o ∷ os) h = refl
 landed_end f zero (v ∷ vs) (o ∷ os) h = absurd (omega (arith, h (omega arith)))
 landed_end f (suc start) vs [] h = refl
 landed_end f (suc start) vs (o ∷ os) h = ap (λ xs. o ∷ xs) (landed_end f start vs os (λ k. omega (arith, h k)))
+
+-- no values land nothing
+pub landed_none : (f : ℕ → ℕ → ℕ) (start : ℕ) (vs os : List ℕ) → os ≡ landed f start (take 0 vs) os
+landed_none f start vs os = sym (landed_end f start [] os (λ h. omega arith))
 
 -- ---- past the last cell
 

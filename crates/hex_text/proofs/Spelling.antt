@@ -7,6 +7,9 @@ use Rattle.hex_text.specs.Hex.{byte_before, byte_value, bytes_spelled, digit_val
 pub digit_back : (n : ℕ) → n < 16 → digit_value (hex_digit n) ≡ Some n
 digit_back n h = grind (arith, nat_tests)
 
+digit_ascii : (n : ℕ) → n < 16 → hex_digit n < 128
+digit_ascii n h = grind (arith, nat_tests)
+
 pub byte_back : (b : ℕ) → b < 256 → byte_value (hex_digit (b / 16)) (hex_digit (b % 16)) ≡ Some b
 byte_back b h =
     ap₂ two_digits (digit_back (b / 16) (omega arith)) (digit_back (b % 16) (omega arith)) ∙ ap Some (omega arith)
